@@ -1,0 +1,5 @@
+pub mod Pieces
+pub mod Replacing
+pub mod FlatArray
+pub mod GapArray
+pub mod Lengths
