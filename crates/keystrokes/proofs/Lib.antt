@@ -1,0 +1,6 @@
+pub mod Runs
+pub mod Utf8Texts
+pub mod Cuts
+pub mod Words
+pub mod Points
+pub mod Listing

@@ -1,0 +1,25 @@
+use mathlib.Core.Path.{sym, subst}
+use Rattle.keystrokes.specs.Typing.{Typed}
+use Rattle.std.specs.Of.Vec.{vec-items}
+use Rattle.keystrokes.proofs.Runs.{typed-once}
+use Rattle.keystrokes.proofs.typing.replay_on_both.Needs as need
+
+pub returns : need.returns
+returns g c =
+    let keys = c .args .keys .now in
+    let came = vec-items (c .press-all .last .came) in
+    let other-came = vec-items (c .press-all-2 .last .came) in
+    let end = g .S·TextStore .text (c .press-all .last .store) in
+    let other-end = g .T·TextStore .text (c .press-all-2 .last .store) in
+    let room = g .S·TextStore .room (c .args .one .now) in
+    let text = g .S·TextStore .text (c .args .one .now) in
+    let other-text = g .T·TextStore .text (c .args .other .now) in
+    let typed = c .press-all .ensures .typed in
+    let other-typed = c .press-all-2 .ensures .typed in
+    record {
+      typed = typed;
+      other-typed = other-typed;
+      alike = λ rooms texts.
+          typed-once room keys text came other-came end other-end typed
+          (subst (λ t. Typed room keys t other-came other-end) (sym texts) (subst (λ r. Typed r keys other-text other-came other-end) (sym rooms) other-typed));
+    }

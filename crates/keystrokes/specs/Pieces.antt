@@ -1,0 +1,51 @@
+-- Rows of bytes cut into pieces: a script into lines, a line into words. Assumes nothing.
+use mathlib.Core.Bool.{Bool, cond, _||_}
+use mathlib.Core.List.{List, [], _∷_}
+use mathlib.Core.Path.{_≡_}
+use Prim.Native.Nat.{ℕ, _<_}
+use lib.Dec.{eqb}
+use lib.ListN.{length}
+use Rattle.keystrokes.specs.declared.stops.Stop.{Stop}
+use Rattle.keystrokes.specs.declared.stops.Stop.the-variants.{Newline, Hash, Blank}
+
+-- whether a byte ends a piece
+abbrev pub ends : Stop → ℕ → Bool
+ends Newline b = eqb b 10
+ends Hash b = eqb b 35
+ends Blank b = eqb b 32 || (eqb b 9 || eqb b 13)
+
+-- the byte in front of the first piece
+abbrev pub onto : ℕ → List (List ℕ) → List (List ℕ)
+onto b [] = (b ∷ []) ∷ []
+onto b (p ∷ ps) = (b ∷ p) ∷ ps
+
+-- the pieces of a row of bytes: each goes up to a byte that ends it, which it lacks, or to the row's end
+abbrev pub pieces : Stop → List ℕ → List (List ℕ)
+pieces stop [] = []
+pieces stop (b ∷ bs) = cond (ends stop b) ([] ∷ pieces stop bs) (onto b (pieces stop bs))
+
+abbrev pub lines : List ℕ → List (List ℕ)
+lines bytes = pieces Newline bytes
+
+-- what stands before the comment
+abbrev pub first : List (List ℕ) → List ℕ
+first [] = []
+first (p ∷ ps) = p
+
+abbrev pub statement : List ℕ → List ℕ
+statement line = first (pieces Hash line)
+
+-- words are parted by one blank or more
+abbrev pub filled : List (List ℕ) → List (List ℕ)
+filled [] = []
+filled ([] ∷ ps) = filled ps
+filled ((b ∷ bs) ∷ ps) = (b ∷ bs) ∷ filled ps
+
+abbrev pub words : List ℕ → List (List ℕ)
+words bytes = filled (pieces Blank bytes)
+
+-- the first word of a text and what follows it; an empty word where the text has none
+pub record Begins (text word rest : List ℕ) : Type 0 where
+  pub some : 0 < length word → words text ≡ word ∷ words rest
+  pub none : length word ≡ 0 → words text ≡ []
+  pub shorter : 0 < length word → length rest < length text

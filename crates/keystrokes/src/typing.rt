@@ -1,0 +1,76 @@
+// Keystrokes on any text store.
+ghost use mathlib.Core.List.{[]};
+ghost use mathlib.Core.Path.{_≡_};
+ghost use Prim.Native.Nat.{_≤_};
+ghost use lib.ListN.{length};
+ghost use Rattle.keystrokes.specs.Typing.{Pressed, Typed, Typed-once};
+ghost use Rattle.std.specs.Of.Vec.{vec-items, vec-cap};
+ghost use Rattle.std.specs.Results.{Cases};
+ghost use Rattle.std.specs.Vec.{made};
+use crate::strokes::Keystroke;
+use crate::strokes::Outcome;
+use std::alloc::AllocError;
+use std::alloc::Global;
+use store::TextStore;
+
+// Makes one keystroke; where it is not done, the text stays.
+pub fn press<S: TextStore>(store: &mut S, key: &Keystroke) -> Outcome
+    ensures pressed { λ r. ⌜ Pressed (S·TextStore .room (now (store .entry))) (now (key .entry)) (S·TextStore .text (now (store .entry))) r (S·TextStore .text (now (store .exit))) ⌝ }
+    ensures same_room { λ _. ⌜ S·TextStore .room (now (store .exit)) ≡ S·TextStore .room (now (store .entry)) ⌝ }
+{
+    let len = store.len();
+    if store.replace(key.place, key.take, key.put.as_slice()) {
+        Outcome::Done
+    } else if len < key.place || len - key.place < key.take {
+        Outcome::PastEnd
+    } else {
+        Outcome::Full
+    }
+}
+
+// Makes the keystrokes in order, and notes what came of each in an empty list with enough memory.
+fn press_all<S: TextStore>(store: &mut S, keys: &[Keystroke], came: &mut Vec<Outcome>)
+    requires empty { ⌜ vec-items (now came) ≡ [] ⌝ }
+    requires reserved { ⌜ length (now keys) ≤ vec-cap (now came) ⌝ }
+    ensures typed { λ _. ⌜ Typed (S·TextStore .room (now (store .entry))) (now (keys .entry)) (S·TextStore .text (now (store .entry))) (vec-items (now (came .exit))) (S·TextStore .text (now (store .exit))) ⌝ }
+    ensures same_room { λ _. ⌜ S·TextStore .room (now (store .exit)) ≡ S·TextStore .room (now (store .entry)) ⌝ }
+{
+    for key in keys {
+        came.push_reserved(press(store, key));
+    }
+}
+
+// Makes the keystrokes in order, and tells what came of each; capacity, keystrokes and text settle
+// that. Want of memory is found before the first, and leaves the store as it was.
+pub fn replay<S: TextStore>(
+    heap: Global,
+    store: &mut S,
+    keys: &[Keystroke],
+) -> Result<Vec<Outcome>, AllocError>
+    ensures typed { λ r. ⌜ Cases r (λ came. Typed (S·TextStore .room (now (store .entry))) (now (keys .entry)) (S·TextStore .text (now (store .entry))) (vec-items came) (S·TextStore .text (now (store .exit)))) (λ _. now (store .exit) ≡ now (store .entry)) ⌝ }
+    ensures same_room { λ _. ⌜ S·TextStore .room (now (store .exit)) ≡ S·TextStore .room (now (store .entry)) ⌝ }
+    ensures settled { λ _. ⌜ Typed-once ⌝ }
+{
+    let mut came = Vec::with_capacity(heap, keys.len())?;
+    press_all(store, keys, &mut came);
+    Ok(came)
+}
+
+// The same on two stores of any kinds. Where capacities and texts are equal before, what came of
+// the keystrokes and the texts are equal after.
+pub fn replay_on_both<S: TextStore, T: TextStore>(
+    heap: Global,
+    one: &mut S,
+    other: &mut T,
+    keys: &[Keystroke],
+) -> Result<(Vec<Outcome>, Vec<Outcome>), AllocError>
+    ensures typed { λ r. ⌜ Cases r (λ came. Typed (S·TextStore .room (now (one .entry))) (now (keys .entry)) (S·TextStore .text (now (one .entry))) (vec-items (came .0)) (S·TextStore .text (now (one .exit)))) (λ _. now (one .exit) ≡ now (one .entry)) ⌝ }
+    ensures other_typed { λ r. ⌜ Cases r (λ came. Typed (T·TextStore .room (now (other .entry))) (now (keys .entry)) (T·TextStore .text (now (other .entry))) (vec-items (came .1)) (T·TextStore .text (now (other .exit)))) (λ _. now (other .exit) ≡ now (other .entry)) ⌝ }
+    ensures alike { λ r. ⌜ (S·TextStore .room (now (one .entry)) ≡ T·TextStore .room (now (other .entry)) → S·TextStore .text (now (one .entry)) ≡ T·TextStore .text (now (other .entry)) → made r (λ came. (vec-items (came .0) ≡ vec-items (came .1)) × (S·TextStore .text (now (one .exit)) ≡ T·TextStore .text (now (other .exit))))) ⌝ }
+{
+    let mut came = Vec::with_capacity(heap, keys.len())?;
+    let mut other_came = Vec::with_capacity(heap, keys.len())?;
+    press_all(one, keys, &mut came);
+    press_all(other, keys, &mut other_came);
+    Ok((came, other_came))
+}
