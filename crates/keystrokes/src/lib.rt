@@ -18,6 +18,7 @@ pub use scripts::BadLine;
 pub use scripts::Script;
 pub use strokes::Keystroke;
 pub use strokes::Outcome;
-pub use typing::press;
-pub use typing::replay;
 pub use typing::replay_on_both;
+
+#[cfg(test)]
+mod tests;

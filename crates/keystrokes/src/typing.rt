@@ -40,24 +40,9 @@ fn press_all<S: TextStore>(store: &mut S, keys: &[Keystroke], came: &mut Vec<Out
     }
 }
 
-// Makes the keystrokes in order, and tells what came of each; capacity, keystrokes and text settle
-// that. Want of memory is found before the first, and leaves the store as it was.
-pub fn replay<S: TextStore>(
-    heap: Global,
-    store: &mut S,
-    keys: &[Keystroke],
-) -> Result<Vec<Outcome>, AllocError>
-    ensures typed { λ r. ⌜ Cases r (λ came. Typed (S·TextStore .room (now (store .entry))) (now (keys .entry)) (S·TextStore .text (now (store .entry))) (vec-items came) (S·TextStore .text (now (store .exit)))) (λ _. now (store .exit) ≡ now (store .entry)) ⌝ }
-    ensures same_room { λ _. ⌜ S·TextStore .room (now (store .exit)) ≡ S·TextStore .room (now (store .entry)) ⌝ }
-    ensures settled { λ _. ⌜ Typed-once ⌝ }
-{
-    let mut came = Vec::with_capacity(heap, keys.len())?;
-    press_all(store, keys, &mut came);
-    Ok(came)
-}
-
-// The same on two stores of any kinds. Where capacities and texts are equal before, what came of
-// the keystrokes and the texts are equal after.
+// Makes the keystrokes in order on two stores of any kinds, and tells what came of each. Capacity,
+// keystrokes and text settle that: where the stores are alike before, they are alike after. Want of
+// memory is found before the first keystroke, and leaves both stores as they were.
 pub fn replay_on_both<S: TextStore, T: TextStore>(
     heap: Global,
     one: &mut S,
@@ -66,6 +51,8 @@ pub fn replay_on_both<S: TextStore, T: TextStore>(
 ) -> Result<(Vec<Outcome>, Vec<Outcome>), AllocError>
     ensures typed { λ r. ⌜ Cases r (λ came. Typed (S·TextStore .room (now (one .entry))) (now (keys .entry)) (S·TextStore .text (now (one .entry))) (vec-items (came .0)) (S·TextStore .text (now (one .exit)))) (λ _. now (one .exit) ≡ now (one .entry)) ⌝ }
     ensures other_typed { λ r. ⌜ Cases r (λ came. Typed (T·TextStore .room (now (other .entry))) (now (keys .entry)) (T·TextStore .text (now (other .entry))) (vec-items (came .1)) (T·TextStore .text (now (other .exit)))) (λ _. now (other .exit) ≡ now (other .entry)) ⌝ }
+    ensures same_rooms { λ _. ⌜ (S·TextStore .room (now (one .exit)) ≡ S·TextStore .room (now (one .entry))) × (T·TextStore .room (now (other .exit)) ≡ T·TextStore .room (now (other .entry))) ⌝ }
+    ensures settled { λ _. ⌜ Typed-once ⌝ }
     ensures alike { λ r. ⌜ (S·TextStore .room (now (one .entry)) ≡ T·TextStore .room (now (other .entry)) → S·TextStore .text (now (one .entry)) ≡ T·TextStore .text (now (other .entry)) → made r (λ came. (vec-items (came .0) ≡ vec-items (came .1)) × (S·TextStore .text (now (one .exit)) ≡ T·TextStore .text (now (other .exit))))) ⌝ }
 {
     let mut came = Vec::with_capacity(heap, keys.len())?;

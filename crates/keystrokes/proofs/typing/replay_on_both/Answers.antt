@@ -1,8 +1,15 @@
+use borrow.Author.Needs.{needs}
 use mathlib.Core.Path.{sym, subst}
 use Rattle.keystrokes.specs.Typing.{Typed}
 use Rattle.std.specs.Of.Vec.{vec-items}
 use Rattle.keystrokes.proofs.Runs.{typed-once}
 use Rattle.keystrokes.proofs.typing.replay_on_both.Needs as need
+
+pub returns-in-Break-came : need.returns-in-Break-came
+returns-in-Break-came g c = record { typed = search needs; other-typed = search needs; same-rooms = search needs; settled = typed-once; alike = search needs }
+
+pub returns-in-Break-other-came : need.returns-in-Break-other-came
+returns-in-Break-other-came g c = record { typed = search needs; other-typed = search needs; same-rooms = search needs; settled = typed-once; alike = search needs }
 
 pub returns : need.returns
 returns g c =
@@ -19,6 +26,8 @@ returns g c =
     record {
       typed = typed;
       other-typed = other-typed;
+      same-rooms = (c .press-all .ensures .same-room, c .press-all-2 .ensures .same-room);
+      settled = typed-once;
       alike = λ rooms texts.
           typed-once room keys text came other-came end other-end typed
           (subst (λ t. Typed room keys t other-came other-end) (sym texts) (subst (λ r. Typed r keys other-text other-came other-end) (sym rooms) other-typed));

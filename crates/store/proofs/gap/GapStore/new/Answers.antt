@@ -7,6 +7,7 @@ use Rattle.store.proofs.gap.GapStore.new.Needs as need
 pub returns : need.returns
 returns c = record {
   empty = drop-all (c .len-end .result) (vec-items (c .args .cells)) (omega (arith, c .args .cells .ok .0));
+  room = refl;
   array = refl;
   gap = refl;
 }
