@@ -24,23 +24,26 @@ abbrev pub pieces : Stop → List ℕ → List (List ℕ)
 pieces stop [] = []
 pieces stop (b ∷ bs) = cond (ends stop b) ([] ∷ pieces stop bs) (onto b (pieces stop bs))
 
+-- a line ends at a line feed
 abbrev pub lines : List ℕ → List (List ℕ)
 lines bytes = pieces Newline bytes
 
--- what stands before the comment
+-- the first piece, and nothing where there is none
 abbrev pub first : List (List ℕ) → List ℕ
 first [] = []
 first (p ∷ ps) = p
 
+-- what stands before the comment
 abbrev pub statement : List ℕ → List ℕ
 statement line = first (pieces Hash line)
 
--- words are parted by one blank or more
+-- the pieces that are not empty
 abbrev pub filled : List (List ℕ) → List (List ℕ)
 filled [] = []
 filled ([] ∷ ps) = filled ps
 filled ((b ∷ bs) ∷ ps) = (b ∷ bs) ∷ filled ps
 
+-- words are parted by one blank or more
 abbrev pub words : List ℕ → List (List ℕ)
 words bytes = filled (pieces Blank bytes)
 

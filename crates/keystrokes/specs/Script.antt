@@ -36,30 +36,34 @@ abbrev pub Spells : Result (Vec ℕ Global) ℕ → Result (List ℕ) ℕ → Ty
 Spells (Ok put) x = x ≡ Ok (vec-items put)
 Spells (Err n) x = x ≡ Err n
 
--- what a line says: nothing, a keystroke, or why it is none
+-- nothing, a keystroke as its place, its count to take and its code points, or why there is none
 pub data Reading : Type 0 where
   nothing : Reading
   press : ℕ → ℕ → List ℕ → Reading
   fault : LineFault → Reading
 
+-- what the words say, from the last to the first: code points, after a place and a count
 abbrev pub with-points : ℕ → ℕ → Result (List ℕ) ℕ → Reading
 with-points place count (Ok put) = press place count put
 with-points place count (Err n) = fault (BadCodePoint n)
 
+-- a count and code points, after a place
 abbrev pub with-count : ℕ → Option ℕ → List (List ℕ) → Reading
 with-count place None ws = fault BadCount
 with-count place (Some count) ws = with-points place count (points 1 ws)
 
+-- a place, a count and code points
 abbrev pub with-place : Option ℕ → List (List ℕ) → Reading
 with-place None ws = fault BadPlace
 with-place (Some place) [] = fault NoCount
 with-place (Some place) (w ∷ ws) = with-count place (decimal w) ws
 
--- the words are a place, a count and code points; the first that is none is the fault
+-- all words; the first that is not what it should be is the fault
 abbrev pub with-words : List (List ℕ) → Reading
 with-words [] = nothing
 with-words (w ∷ ws) = with-place (decimal w) ws
 
+-- what a line says
 abbrev pub reading : List ℕ → Reading
 reading line = with-words (words (statement line))
 

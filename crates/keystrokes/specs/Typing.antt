@@ -15,7 +15,7 @@ use Rattle.keystrokes.specs.declared.strokes.Outcome.the-variants.{Done, PastE
 abbrev pub pressed : Keystroke → List ℕ → List ℕ
 pressed k text = spliced (k .place) (k .take) (vec-items (k .put)) text
 
--- what comes of a keystroke: the first that applies of past the end, and full
+-- what comes of a keystroke: what it takes passes the end, or else what it leaves passes the capacity, or else it is done
 abbrev pub outcome : ℕ → Keystroke → List ℕ → Outcome
 outcome capacity k text =
     cond (leb (k .place + k .take) (length text)) (cond (leb (length (pressed k text)) capacity) Done Full) PastEnd
@@ -26,10 +26,10 @@ after Done k text = pressed k text
 after PastEnd k text = text
 after Full k text = text
 
--- one keystroke
-pub record Pressed (capacity : ℕ) (k : Keystroke) (before : List ℕ) (came : Outcome) (now : List ℕ) : Type 0 where
+-- one keystroke, with what came of it and the text that it left
+pub record Pressed (capacity : ℕ) (k : Keystroke) (before : List ℕ) (came : Outcome) (end : List ℕ) : Type 0 where
   pub told : came ≡ outcome capacity k before
-  pub text : now ≡ after came k before
+  pub text : end ≡ after came k before
 
 -- keystrokes one after the other, each on what the one before left, with what came of each
 abbrev pub Typed : ℕ → List Keystroke → List ℕ → List Outcome → List ℕ → Type 0

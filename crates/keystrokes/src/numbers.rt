@@ -22,14 +22,14 @@ fn number(word: &[u8], base: u32) -> Option<usize>
 }
 
 // A number in base ten.
-pub fn read_decimal(word: &[u8]) -> Option<usize>
+pub(crate) fn read_decimal(word: &[u8]) -> Option<usize>
     ensures { λ r. ⌜ r ≡ decimal (now (word .entry)) ⌝ }
 {
     number(word, 10)
 }
 
 // A scalar value in base sixteen.
-pub fn read_code_point(word: &[u8]) -> Option<u32>
+pub(crate) fn read_code_point(word: &[u8]) -> Option<u32>
     ensures { λ r. ⌜ r ≡ code-point (now (word .entry)) ⌝ }
 {
     let Some(n) = number(word, 16) else {

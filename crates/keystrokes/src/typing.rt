@@ -14,7 +14,7 @@ use std::alloc::Global;
 use store::TextStore;
 
 // Makes one keystroke; where it is not done, the text stays.
-pub fn press<S: TextStore>(store: &mut S, key: &Keystroke) -> Outcome
+pub(crate) fn press<S: TextStore>(store: &mut S, key: &Keystroke) -> Outcome
     ensures pressed { λ r. ⌜ Pressed (S·TextStore .room (now (store .entry))) (now (key .entry)) (S·TextStore .text (now (store .entry))) r (S·TextStore .text (now (store .exit))) ⌝ }
     ensures same_room { λ _. ⌜ S·TextStore .room (now (store .exit)) ≡ S·TextStore .room (now (store .entry)) ⌝ }
 {

@@ -12,6 +12,7 @@ use Rattle.store.specs.declared.gap.GapStore.{GapStore}
 abbrev pub flat-text : FlatStore → List ℕ
 flat-text s = take (s .used) (vec-items (s .cells))
 
+-- its capacity
 abbrev pub flat-room : FlatStore → ℕ
 flat-room s = capacity-of (vec-len (s .cells))
 
@@ -19,5 +20,6 @@ flat-room s = capacity-of (vec-len (s .cells))
 abbrev pub gap-text : GapStore → List ℕ
 gap-text s = around (s .gap) (vec-items (s .cells))
 
+-- its capacity
 abbrev pub gap-room : GapStore → ℕ
 gap-room s = capacity-of (vec-len (s .cells))

@@ -33,6 +33,13 @@ fn at_four<S: TextStore>(store: &mut S) -> Result<(), Fail> {
     )
 }
 
+// Over an array with no cell.
+fn at_nothing<S: TextStore>(store: &mut S) -> Result<(), Fail> {
+    check(!store.replace(0, 0, &[65]))?;
+    check(store.replace(0, 0, &[]))?;
+    check_eq((store.len(), store.capacity()), (0, 0))
+}
+
 // Over an array longer than a store may hold.
 fn at_the_limit<S: TextStore>(store: &mut S, heap: Global) -> Result<(), Fail> {
     let full = array(heap, 4096)?;
@@ -69,6 +76,8 @@ fn gap_store(rt: LibcRuntime) -> Result<(), Fail> {
 #[test]
 fn limits(rt: LibcRuntime) -> Result<(), Fail> {
     let heap = rt.alloc();
+    at_nothing(&mut FlatStore::new(array(heap, 0)?))?;
+    at_nothing(&mut GapStore::new(array(heap, 0)?))?;
     let mut flat = FlatStore::new(array(heap, 5000)?);
     at_the_limit(&mut flat, heap)?;
     let mut gap = GapStore::new(array(heap, 5000)?);

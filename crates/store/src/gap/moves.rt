@@ -1,5 +1,5 @@
-// What an edit does to the array of a gap store. Each function that is lent the whole array lends
-// on what lies from the new gap's start, to those that write there.
+// What a replacement does to the array of a gap store. A function that is lent the whole array lends
+// the part from the gap on to those that write there.
 ghost use mathlib.Core.List.{_++_};
 ghost use mathlib.Core.Path.{_≡_};
 ghost use Prim.Native.Nat.{_+_, _-_, _≤_};
@@ -9,7 +9,7 @@ ghost use Rattle.store.specs.Texts.{spliced};
 use crate::gap::place::Gap;
 
 // Makes the replacement. The gap then starts right behind the list.
-pub fn splice(cells: &mut [u32], gap: Gap, place: usize, take: usize, put: &[u32]) -> Gap
+pub(super) fn splice(cells: &mut [u32], gap: Gap, place: usize, take: usize, put: &[u32]) -> Gap
     requires apart { ⌜ gap .start ≤ gap .end ⌝ }
     requires inside { ⌜ gap .end ≤ length (now cells) ⌝ }
     requires taken { ⌜ place + take ≤ gap .start + (length (now cells) - gap .end) ⌝ }
@@ -48,7 +48,7 @@ fn move_gap(cells: &mut [u32], gap: Gap, place: usize) -> Gap
     }
 }
 
-// The first `count` cells go back by `size`, right before those that follow a gap of that size.
+// The first `count` cells go to right before those that follow a gap of this size.
 fn carry_back(cells: &mut [u32], count: usize, size: usize)
     requires { ⌜ count + size ≤ length (now cells) ⌝ }
     ensures { λ _. ⌜ from size (now (cells .exit)) ≡ first count (now (cells .entry)) ++ from (count + size) (now (cells .entry)) ⌝ }

@@ -3,14 +3,11 @@ use mathlib.Core.Path.{refl, sym, ap, _∙_}
 use native.Mathlib.Omega.{arith}
 use Rattle.std.proofs.shelf.Lists.{refilled-is}
 use Rattle.std.proofs.shelf.Ways.{tells}
-use Rattle.store.proofs.Lengths.{length-gap-text, gap-text-within}
+use Rattle.store.proofs.Lengths.{length-gap-text}
 use Rattle.store.proofs.Replacing.{told-of-text}
 use Rattle.store.specs.Gaps.{around}
 use Rattle.store.specs.Texts.{spliced}
 use Rattle.store.proofs.gap.calls.GapText.replace.Needs as need
-
-pub is-possible-requires : need.is-possible-requires
-is-possible-requires c κs = omega (arith, gap-text-within (c .args .self .now), c .len .ensures, c .capacity .ensures)
 
 pub returns-then-not-is-possible : need.returns-then-not-is-possible
 returns-then-not-is-possible c =
