@@ -4,3 +4,4 @@ pub mod Cuts
 pub mod Words
 pub mod Points
 pub mod Listing
+pub mod Feeds

@@ -1,10 +1,12 @@
 -- Rows of bytes cut into pieces: a script into lines, a line into words. Assumes nothing.
 use mathlib.Core.Bool.{Bool, cond, _||_}
-use mathlib.Core.List.{List, [], _∷_}
+use mathlib.Core.List.{List, [], _∷_, _++_}
+use mathlib.Core.Logic.{_⊎_}
 use mathlib.Core.Path.{_≡_}
 use Prim.Native.Nat.{ℕ, _<_}
 use lib.Dec.{eqb}
-use lib.ListN.{length}
+use lib.ListN.{length, getD}
+use Rattle.std.specs.shelf.Lists.{All}
 use Rattle.keystrokes.specs.declared.stops.Stop.{Stop}
 use Rattle.keystrokes.specs.declared.stops.Stop.the-variants.{Newline, Hash, Blank}
 
@@ -27,6 +29,26 @@ pieces stop (b ∷ bs) = cond (ends stop b) ([] ∷ pieces stop bs) (onto b (pie
 -- a line ends at a line feed
 abbrev pub lines : List ℕ → List (List ℕ)
 lines bytes = pieces Newline bytes
+
+-- lines, each with a line feed behind it
+abbrev pub fed : List (List ℕ) → List ℕ
+fed [] = []
+fed (l ∷ ls) = l ++ (10 ∷ fed ls)
+
+abbrev pub Without-feed : List ℕ → Type 0
+Without-feed line = (k : ℕ) → k < length line → getD line k 0 ≡ 10 → ⊥
+
+-- the bytes end with another byte than a line feed
+pub record Unended (bytes : List ℕ) : Type 0 where
+  pub front : List ℕ
+  pub last : ℕ
+  pub whole : bytes ≡ front ++ (last ∷ [])
+  pub other : last ≡ 10 → ⊥
+
+-- what lines are: no line holds a line feed, and with one behind each they are the script, which may lack its last
+pub record Lined (bytes : List ℕ) : Type 0 where
+  pub plain : All Without-feed (lines bytes)
+  pub whole : (fed (lines bytes) ≡ bytes) ⊎ ((fed (lines bytes) ≡ bytes ++ (10 ∷ [])) × Unended bytes)
 
 -- the first piece, and nothing where there is none
 abbrev pub first : List (List ℕ) → List ℕ

@@ -1,7 +1,7 @@
 // Reads a keystroke script: a keystroke a line, as a place, a count to take and code points.
 ghost use mathlib.Core.List.{List, _++_};
 ghost use mathlib.Core.Path.{_≡_};
-ghost use Rattle.keystrokes.specs.Pieces.{lines, words};
+ghost use Rattle.keystrokes.specs.Pieces.{lines, words, Lined};
 ghost use Rattle.keystrokes.specs.Script.{points, Spells, reading, Says, Adds, Reads};
 ghost use Rattle.std.specs.Of.Vec.{vec-items};
 ghost use Rattle.std.specs.Vec.{made};
@@ -92,7 +92,8 @@ fn note_line(
 
 // The keystrokes and the bad lines of a script, in its order. Lines end at a line feed.
 pub fn read_script(heap: Global, bytes: &[u8]) -> Result<Script, AllocError>
-    ensures { λ r. ⌜ made r (λ s. Reads (lines (now (bytes .entry))) s) ⌝ }
+    ensures read { λ r. ⌜ made r (λ s. Reads (lines (now (bytes .entry))) s) ⌝ }
+    ensures lined { λ _. ⌜ Lined (now (bytes .entry)) ⌝ }
 {
     let mut script = Script {
         lines: 0,
