@@ -7,7 +7,7 @@ use lib.ListN.{length}
 use Rattle.std.proofs.shelf.Lists.{length-map, length-push, map-push}
 use Rattle.std.specs.Of.Vec.{vec-items}
 use Rattle.keystrokes.specs.Pieces.{lines}
-use Rattle.keystrokes.specs.Script.{Reading, nothing, press, fault, reading, Says, Adds, Listed, Reads}
+use Rattle.keystrokes.specs.Script.{Reading, fault, reading, Says, Adds, Listed, Reads}
 use Rattle.keystrokes.specs.declared.faults.LineFault.{LineFault}
 use Rattle.keystrokes.specs.declared.scripts.BadLine.{BadLine}
 use Rattle.keystrokes.specs.declared.scripts.Script.{Script}

@@ -1,12 +1,12 @@
 -- Words, and the numbers that they write. Assumes nothing.
 use mathlib.Core.Bool.{Bool, true, false, cond, _&&_}
 use mathlib.Core.List.{List, [], _∷_}
-use mathlib.Core.Path.{_≡_, refl, sym, ap, _∙_}
-use Prim.Native.Nat.{ℕ, _+_, _^_, _≤_, _<_}
+use mathlib.Core.Path.{_≡_, refl, ap}
+use Prim.Native.Nat.{ℕ, _^_, _≤_, _<_}
 use native.Mathlib.Omega.{arith}
 use borrow.Author.Needs.{needs}
 use lib.Dec.{ltb}
-use lib.ListN.{length, getD}
+use lib.ListN.{getD}
 use lib.Utf8.{scalar}
 use Rattle.std.proofs.shelf.Ascii.{ascii-nil, ascii-cons}
 use Rattle.std.proofs.shelf.Text.{utf8-from-ascii}
@@ -33,8 +33,8 @@ numeral-utf8 base cs small n = utf8-from-ascii cs (digits-ascii base cs small (n
 pub no-plus : (base : ℕ) (cs : List ℕ) → base ≤ 36 → getD cs 0 0 ≡ 43 → Numeral base cs → ⊥
 no-plus base [] small plus n = omega (arith, n .0)
 no-plus base (c ∷ cs) small plus n =
-    let zero-digit : digitValue 43 < base = rw plus at (n .1 .0) in
-    omega (arith, zero-digit)
+    let digit : digitValue 43 < base = rw plus at (n .1 .0) in
+    omega (arith, digit)
 
 -- the definitions as tests
 digits-decides : (base : ℕ) (cs : List ℕ) → Decides (digits base cs) (Digits base cs)

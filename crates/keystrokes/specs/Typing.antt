@@ -1,5 +1,5 @@
 -- What keystrokes do to a text of limited length. Assumes nothing.
-use mathlib.Core.Bool.{Bool, true, false, cond}
+use mathlib.Core.Bool.{cond}
 use mathlib.Core.List.{List, [], _∷_}
 use mathlib.Core.Path.{_≡_}
 use Prim.Native.Nat.{ℕ, _+_}
@@ -33,10 +33,10 @@ pub record Pressed (capacity : ℕ) (k : Keystroke) (before : List ℕ) (came : 
 
 -- keystrokes one after the other, each on what the one before left, with what came of each
 abbrev pub Typed : ℕ → List Keystroke → List ℕ → List Outcome → List ℕ → Type 0
-Typed capacity [] before came end = (came ≡ []) × (end ≡ before)
-Typed capacity (k ∷ ks) before came end =
-    (first : Outcome) × (middle : List ℕ) × (rest : List Outcome) × (came ≡ first ∷ rest) × Pressed capacity k before first middle × Typed capacity ks middle rest end
+Typed capacity [] before outcomes end = (outcomes ≡ []) × (end ≡ before)
+Typed capacity (k ∷ ks) before outcomes end =
+    (first : Outcome) × (middle : List ℕ) × (rest : List Outcome) × (outcomes ≡ first ∷ rest) × Pressed capacity k before first middle × Typed capacity ks middle rest end
 
 -- capacity, keystrokes and text settle what comes of each keystroke and what text is left
 abbrev pub Typed-once : Type 0
-Typed-once = (capacity : ℕ) (ks : List Keystroke) (before : List ℕ) (came came′ : List Outcome) (end end′ : List ℕ) → Typed capacity ks before came end → Typed capacity ks before came′ end′ → (came ≡ came′) × (end ≡ end′)
+Typed-once = (capacity : ℕ) (ks : List Keystroke) (before : List ℕ) (outcomes outcomes′ : List Outcome) (end end′ : List ℕ) → Typed capacity ks before outcomes end → Typed capacity ks before outcomes′ end′ → (outcomes ≡ outcomes′) × (end ≡ end′)

@@ -20,6 +20,7 @@ impl Outcome {
         }
     }
 
+    // The same in words.
     pub fn sentence(self) -> &'static str
         ensures { λ r. ⌜ now r ≡ outcome-sentence self ⌝ }
     {
@@ -32,6 +33,7 @@ impl Outcome {
 }
 
 impl LineFault {
+    // The fault in words.
     pub fn sentence(self, heap: Global) -> Result<String, AllocError>
         ensures { λ r. ⌜ made r (λ s. string-bytes s ≡ fault-sentence self) ⌝ }
     {

@@ -29,14 +29,14 @@ pub(crate) fn press<S: TextStore>(store: &mut S, key: &Keystroke) -> Outcome
 }
 
 // Makes the keystrokes in order, and notes what came of each in an empty list with enough memory.
-fn press_all<S: TextStore>(store: &mut S, keys: &[Keystroke], came: &mut Vec<Outcome>)
-    requires empty { ⌜ vec-items (now came) ≡ [] ⌝ }
-    requires reserved { ⌜ length (now keys) ≤ vec-cap (now came) ⌝ }
-    ensures typed { λ _. ⌜ Typed (S·TextStore .room (now (store .entry))) (now (keys .entry)) (S·TextStore .text (now (store .entry))) (vec-items (now (came .exit))) (S·TextStore .text (now (store .exit))) ⌝ }
+fn press_all<S: TextStore>(store: &mut S, keys: &[Keystroke], outcomes: &mut Vec<Outcome>)
+    requires empty { ⌜ vec-items (now outcomes) ≡ [] ⌝ }
+    requires reserved { ⌜ length (now keys) ≤ vec-cap (now outcomes) ⌝ }
+    ensures typed { λ _. ⌜ Typed (S·TextStore .room (now (store .entry))) (now (keys .entry)) (S·TextStore .text (now (store .entry))) (vec-items (now (outcomes .exit))) (S·TextStore .text (now (store .exit))) ⌝ }
     ensures same_room { λ _. ⌜ S·TextStore .room (now (store .exit)) ≡ S·TextStore .room (now (store .entry)) ⌝ }
 {
     for key in keys {
-        came.push_reserved(press(store, key));
+        outcomes.push_reserved(press(store, key));
     }
 }
 
@@ -49,15 +49,15 @@ pub fn replay_on_both<S: TextStore, T: TextStore>(
     other: &mut T,
     keys: &[Keystroke],
 ) -> Result<(Vec<Outcome>, Vec<Outcome>), AllocError>
-    ensures typed { λ r. ⌜ Cases r (λ came. Typed (S·TextStore .room (now (one .entry))) (now (keys .entry)) (S·TextStore .text (now (one .entry))) (vec-items (came .0)) (S·TextStore .text (now (one .exit)))) (λ _. now (one .exit) ≡ now (one .entry)) ⌝ }
-    ensures other_typed { λ r. ⌜ Cases r (λ came. Typed (T·TextStore .room (now (other .entry))) (now (keys .entry)) (T·TextStore .text (now (other .entry))) (vec-items (came .1)) (T·TextStore .text (now (other .exit)))) (λ _. now (other .exit) ≡ now (other .entry)) ⌝ }
+    ensures typed { λ r. ⌜ Cases r (λ outcomes. Typed (S·TextStore .room (now (one .entry))) (now (keys .entry)) (S·TextStore .text (now (one .entry))) (vec-items (outcomes .0)) (S·TextStore .text (now (one .exit)))) (λ _. now (one .exit) ≡ now (one .entry)) ⌝ }
+    ensures other_typed { λ r. ⌜ Cases r (λ outcomes. Typed (T·TextStore .room (now (other .entry))) (now (keys .entry)) (T·TextStore .text (now (other .entry))) (vec-items (outcomes .1)) (T·TextStore .text (now (other .exit)))) (λ _. now (other .exit) ≡ now (other .entry)) ⌝ }
     ensures same_rooms { λ _. ⌜ (S·TextStore .room (now (one .exit)) ≡ S·TextStore .room (now (one .entry))) × (T·TextStore .room (now (other .exit)) ≡ T·TextStore .room (now (other .entry))) ⌝ }
     ensures settled { λ _. ⌜ Typed-once ⌝ }
-    ensures alike { λ r. ⌜ (S·TextStore .room (now (one .entry)) ≡ T·TextStore .room (now (other .entry)) → S·TextStore .text (now (one .entry)) ≡ T·TextStore .text (now (other .entry)) → made r (λ came. (vec-items (came .0) ≡ vec-items (came .1)) × (S·TextStore .text (now (one .exit)) ≡ T·TextStore .text (now (other .exit))))) ⌝ }
+    ensures alike { λ r. ⌜ (S·TextStore .room (now (one .entry)) ≡ T·TextStore .room (now (other .entry)) → S·TextStore .text (now (one .entry)) ≡ T·TextStore .text (now (other .entry)) → made r (λ outcomes. (vec-items (outcomes .0) ≡ vec-items (outcomes .1)) × (S·TextStore .text (now (one .exit)) ≡ T·TextStore .text (now (other .exit))))) ⌝ }
 {
-    let mut came = Vec::with_capacity(heap, keys.len())?;
-    let mut other_came = Vec::with_capacity(heap, keys.len())?;
-    press_all(one, keys, &mut came);
-    press_all(other, keys, &mut other_came);
-    Ok((came, other_came))
+    let mut outcomes = Vec::with_capacity(heap, keys.len())?;
+    let mut other_outcomes = Vec::with_capacity(heap, keys.len())?;
+    press_all(one, keys, &mut outcomes);
+    press_all(other, keys, &mut other_outcomes);
+    Ok((outcomes, other_outcomes))
 }

@@ -75,11 +75,11 @@ fn tell_outcomes(
     rt: &LibcRuntime,
     name: &str,
     script: &Script,
-    came: &[Outcome],
+    outcomes: &[Outcome],
 ) -> Result<(), AnyError> {
     let mut made: usize = 0;
     let mut refused: usize = 0;
-    for (key, outcome) in script.keys.iter().zip(came.iter()) {
+    for (key, outcome) in script.keys.iter().zip(outcomes.iter()) {
         if let Some(number) = outcome.refusal() {
             let line = key.line;
             let sentence = outcome.sentence();
@@ -115,9 +115,14 @@ fn replay_script(rt: &LibcRuntime, bytes: &[u8]) -> Result<(), AnyError> {
     tell_bad_lines(rt, &script)?;
     let mut flat = FlatStore::new(array(heap)?);
     let mut gap = GapStore::new(array(heap)?);
-    let (flat_came, gap_came) = replay_on_both(heap, &mut flat, &mut gap, script.keys.as_slice())?;
-    tell_outcomes(rt, "flat", &script, flat_came.as_slice())?;
-    tell_outcomes(rt, "gap", &script, gap_came.as_slice())?;
+    let (flat_outcomes, gap_outcomes) = replay_on_both(
+        heap,
+        &mut flat,
+        &mut gap,
+        script.keys.as_slice(),
+    )?;
+    tell_outcomes(rt, "flat", &script, flat_outcomes.as_slice())?;
+    tell_outcomes(rt, "gap", &script, gap_outcomes.as_slice())?;
     tell_text(rt, "flat", &flat)?;
     tell_text(rt, "gap", &gap)?;
     let equal = if same_text(&flat, &gap) { "yes" } else { "no" };

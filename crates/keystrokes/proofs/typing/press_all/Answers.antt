@@ -1,5 +1,5 @@
 use mathlib.Core.List.{[], _∷_, _++_}
-use mathlib.Core.Path.{_≡_, sym, ap, subst, _∙_}
+use mathlib.Core.Path.{sym, ap, subst, _∙_}
 use Prim.Native.Nat.{_+_}
 use native.Mathlib.Omega.{arith}
 use lib.ListN.{take}
@@ -21,7 +21,7 @@ loop-key-again g c =
     let new = s .text (c .press .last .store) in
     let keys-more = take-more keys i key (c .loop-key-test .taken) ∙ ap (λ k. take i keys ++ (k ∷ [])) (sym (c .key-item .is)) in
     let pressed = subst (λ r. Pressed r key (s .text (c .loop-key .store)) (c .press .result) new) (inv .0) (c .press .ensures .pressed) in
-    let typed = typed-more room (take i keys) key text (vec-items (c .loop-key .came)) (c .press .result) (s .text (c .loop-key .store)) new (inv .3) pressed in (
+    let typed = typed-more room (take i keys) key text (vec-items (c .loop-key .outcomes)) (c .press .result) (s .text (c .loop-key .store)) new (inv .3) pressed in (
       c .press .ensures .same-room ∙ inv .0,
       omega (arith, c .push-reserved .ensures .len, inv .1),
       omega (arith, c .push-reserved .ensures .capacity, inv .2),
@@ -34,6 +34,6 @@ returns g c =
     let s = g .S·TextStore in
     let inv = c .loop-key .inv in
     record {
-      typed = subst (λ ks. Typed (s .room (c .args .store .now)) ks (s .text (c .args .store .now)) (vec-items (c .loop-key .came)) (s .text (c .loop-key .store))) (take-all _ _ (c .loop-key-test .left)) (inv .3);
+      typed = subst (λ ks. Typed (s .room (c .args .store .now)) ks (s .text (c .args .store .now)) (vec-items (c .loop-key .outcomes)) (s .text (c .loop-key .store))) (take-all _ _ (c .loop-key-test .left)) (inv .3);
       same-room = inv .0;
     }

@@ -9,6 +9,6 @@ abbrev pub Inv-loop-key : given.InvT-loop-key
 Inv-loop-key g l =
     let s = g .S·TextStore in
     (s .room (l .store) ≡ s .room (l .entry .store))
-    × (vec-len (l .came) ≡ l .key-index)
-    × (length (l .keys) ≤ vec-cap (l .came))
-    × Typed (s .room (l .entry .store)) (take (l .key-index) (l .keys)) (s .text (l .entry .store)) (vec-items (l .came)) (s .text (l .store))
+    × (vec-len (l .outcomes) ≡ l .key-index)
+    × (length (l .keys) ≤ vec-cap (l .outcomes))
+    × Typed (s .room (l .entry .store)) (take (l .key-index) (l .keys)) (s .text (l .entry .store)) (vec-items (l .outcomes)) (s .text (l .store))

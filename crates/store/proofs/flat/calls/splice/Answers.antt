@@ -1,7 +1,7 @@
 use mathlib.Core.Path.{refl, ap, _∙_}
 use Prim.Native.Nat.{_+_, _-_}
 use native.Mathlib.Omega.{arith}
-use lib.ListN.{length, take, drop}
+use lib.ListN.{length, take}
 use lib.Seq.{paste}
 use Rattle.std.proofs.shelf.Parts.{putMid-paste}
 use Rattle.store.proofs.FlatArray.{flat-spliced}

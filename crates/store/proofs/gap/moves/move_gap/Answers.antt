@@ -1,12 +1,11 @@
 use mathlib.Core.List.{_++_}
-use mathlib.Core.Path.{_≡_, refl, sym, ap, _∙_}
+use mathlib.Core.Path.{_≡_, refl, ap, _∙_}
 use Prim.Native.Nat.{_+_, _-_}
 use native.Mathlib.Omega.{arith}
-use lib.ListN.{length, take, drop}
+use lib.ListN.{take, drop}
 use Rattle.std.proofs.shelf.Lists.{take-rest}
 use Rattle.store.proofs.GapArray.{moved-back, moved-front}
 use Rattle.store.proofs.Pieces.{put-rest}
-use Rattle.store.specs.Gaps.{around}
 use Rattle.store.proofs.gap.moves.move_gap.Needs as need
 use Rattle.store.proofs.gap.moves.move_gap.Needs.{then-place-start, else-place-start}
 

@@ -1,6 +1,5 @@
 use mathlib.Core.Path.{sym, _∙_}
 use native.Mathlib.Omega.{arith}
-use lib.ListN.{length}
 use Rattle.std.proofs.shelf.Lists.{getD-read-under, getD-past}
 use Rattle.std.specs.Of.Vec.{vec-items}
 use Rattle.store.proofs.GapArray.{at-front, at-back}
