@@ -19,7 +19,7 @@ BINDING = re.compile(
     r"(" + WORD + r")((?:\s*[({][^=:\n]*:[^=\n]*?[)}])*)\s*:(?!=)([^\n]*)",
     re.M,
 )
-LOCAL = re.compile(r"\blet\s+(" + WORD + r")\s*[:=]")
+LOCAL = re.compile(r"(?:\blet\s+|[({])(" + WORD + r")\s*[:=]|\bas\s+(" + WORD + r")")
 TOKEN = re.compile(r"(?<![A-Za-z0-9_'-])" + WORD + r"(?![A-Za-z0-9_'])")
 # what must not be touched: strings, comments of both languages
 HIDDEN = re.compile(r'b?"(?:\\.|[^"\\])*"|--(?=\s|$)[^\n]*|//[^\n]*', re.M)
@@ -60,8 +60,9 @@ def own_names(root):
             if "goal." not in rest and ("-" in name or name[0].isupper()):
                 own[name].add(path)
         for m in LOCAL.finditer(text):
-            if "-" in m.group(1):
-                own[m.group(1)].add(path)
+            name = m.group(1) or m.group(2)
+            if "-" in name:
+                own[name].add(path)
     return own
 
 

@@ -76,7 +76,7 @@ abbrev pub Listed : ℕ → List Reading → List Keystroke → List BadLine →
 Listed number [] keys bad = (keys ≡ []) × (bad ≡ [])
 Listed number (r ∷ rs) keys bad =
     (here : List Keystroke) × (there : List Keystroke) × (keys ≡ here ++ there) ×
-    (bad-here : List BadLine) × (bad-there : List BadLine) × (bad ≡ bad-here ++ bad-there) × Adds number r here bad-here × Listed (suc number) rs there bad-there
+    (bad_here : List BadLine) × (bad_there : List BadLine) × (bad ≡ bad_here ++ bad_there) × Adds number r here bad_here × Listed (suc number) rs there bad_there
 
 -- a script as it was read from these lines
 pub record Reads (ls : List (List ℕ)) (s : Script) : Type 0 where

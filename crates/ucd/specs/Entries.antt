@@ -6,14 +6,14 @@ use Rattle.ucd.specs.declared.entries.Entry.{Entry}
 use Rattle.ucd.specs.declared.entries.Entry.TheVariants.{Nothing, Lists}
 use Rattle.ucd.specs.declared.faults.Field.{Field}
 use Rattle.ucd.specs.declared.faults.Field.TheVariants.{First, Second}
-use Rattle.ucd.specs.declared.faults.Finder.TheVariants.{Field as field-reader}
+use Rattle.ucd.specs.declared.faults.Finder.TheVariants.{Field as field_reader}
 use Rattle.ucd.specs.declared.faults.LineFault.{LineFault}
 use Rattle.ucd.specs.declared.faults.Reason.{Reason}
 use Rattle.ucd.specs.declared.faults.Reason.TheVariants.{BadName}
 
 -- a fault of a field that begins at this place
 abbrev pub blame : Reason → Field → ℕ → LineFault
-blame why which place = record { reason = why; field = which; place = place; finder = field-reader }
+blame why which place = record { reason = why; field = which; place = place; finder = field_reader }
 
 -- a fault of field 1, if there is one
 abbrev pub blamed : ℕ → Result (ℕ × ℕ) Reason → Result (ℕ × ℕ) LineFault

@@ -3,7 +3,7 @@ use Rattle.std.specs.Prelude.{ℕ, List, codes}
 use Rattle.ucd.specs.declared.faults.Field.{Field}
 use Rattle.ucd.specs.declared.faults.Field.TheVariants.{Whole, First, Second}
 use Rattle.ucd.specs.declared.faults.Finder.{Finder}
-use Rattle.ucd.specs.declared.faults.Finder.TheVariants.{Line as line-reader, Field as field-reader, File as file-reader}
+use Rattle.ucd.specs.declared.faults.Finder.TheVariants.{Line as line_reader, Field as field_reader, File as file_reader}
 use Rattle.ucd.specs.declared.faults.Reason.{Reason}
 use Rattle.ucd.specs.declared.faults.Reason.TheVariants.{LongLine, FieldCount, BadRange, BadPoint, BadName, Shared, Full}
 
@@ -32,6 +32,6 @@ field_number First = 1
 field_number Second = 2
 
 abbrev pub finder_name : Finder → List ℕ
-finder_name line-reader = codes "line reader"
-finder_name field-reader = codes "field reader"
-finder_name file-reader = codes "file reader"
+finder_name line_reader = codes "line reader"
+finder_name field_reader = codes "field reader"
+finder_name file_reader = codes "file reader"

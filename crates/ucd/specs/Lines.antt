@@ -9,7 +9,7 @@ use Rattle.ucd.specs.declared.faults.Reason.{Reason}
 use Rattle.ucd.specs.declared.faults.Reason.TheVariants.{LongLine, FieldCount}
 use Rattle.ucd.specs.declared.kinds.Kind.TheVariants.{Uncommented, InField, Blank}
 use Rattle.ucd.specs.declared.pieces.Parts.{Parts}
-use Rattle.ucd.specs.declared.pieces.Parts.TheVariants.{Blank as blank-parts, Listing as listing-parts}
+use Rattle.ucd.specs.declared.pieces.Parts.TheVariants.{Blank as blank_parts, Listing as listing_parts}
 use Rattle.ucd.specs.declared.pieces.Piece.{Piece}
 
 -- bytes of a line, and where in the line they begin
@@ -28,8 +28,8 @@ pub data Layout : Type 0 where
 
 -- the parts as the program holds them
 abbrev pub laid_out : Parts → Layout
-laid_out (blank-parts comment) = blank (seen comment)
-laid_out (listing-parts range value comment) = listing (seen range) (seen value) (seen comment)
+laid_out (blank_parts comment) = blank (seen comment)
+laid_out (listing_parts range value comment) = listing (seen range) (seen value) (seen comment)
 
 -- without the carriage return at the end, if one is there
 abbrev pub unreturned : List ℕ → List ℕ
