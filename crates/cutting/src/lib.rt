@@ -1,4 +1,6 @@
 // Rows of bytes cut into pieces: a file into lines, a line into words.
+#![tactic(auto)]
+
 mod cutting;
 mod stops;
 

@@ -1,4 +1,6 @@
 // Keystrokes: what a person types into a text store, and scripts of them.
+#![tactic(auto)]
+
 mod cutting;
 mod faults;
 mod numbers;

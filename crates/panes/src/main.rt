@@ -1,4 +1,6 @@
 // Replays a keystroke script on a flat and on a gap store, and shows what came of it.
+#![tactic(auto)]
+
 use anyhow::anyhow;
 use keystrokes::{Outcome, Script, read_script, replay_on_both, same_text, text_of};
 use std::alloc::{AllocError, Global};

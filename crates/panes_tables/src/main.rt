@@ -1,5 +1,7 @@
 // Loads the Unicode data files, replays a keystroke script on a flat and on a gap store, and tells the
 // properties of each code point of the text.
+#![tactic(auto)]
+
 mod data;
 mod files;
 mod script;

@@ -1,4 +1,6 @@
 // The properties of code points that boundaries rest on, with their values' names in the data files.
+#![tactic(auto)]
+
 mod category;
 mod grapheme_class;
 mod line_class;

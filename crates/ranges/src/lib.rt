@@ -3,6 +3,8 @@
 //     let mut filling = Filling::new(&mut records);
 //     filling.insert(Range { first: 0x41, last: 0x5A, value })?;
 //     let value = filling.table().lookup(0x42);
+#![tactic(auto)]
+
 mod filling;
 mod range;
 mod refusal;

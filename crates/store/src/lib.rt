@@ -1,4 +1,6 @@
 // Text stores: a text under edit, kept in an array that the caller hands over.
+#![tactic(auto)]
+
 mod flat;
 mod gap;
 mod limits;

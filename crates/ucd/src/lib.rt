@@ -3,6 +3,8 @@
 //     let (table, answer) = read_file(bytes, &mut records);
 //     let lines = answer?;
 //     let class: LineClass = value_of(&table, 0x1F468);
+#![tactic(auto)]
+
 mod entries;
 mod faults;
 mod fields;

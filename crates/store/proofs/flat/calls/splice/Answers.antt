@@ -13,6 +13,6 @@ returns c =
     let count = c.args.take in
     let new = used - count + length put in
     let n = used - (place + count) in
-    ap (take new) (put_mid-paste place _ _ _ put (length put) c.copy-from-slice.ensures.after (omega arith) refl)
-    ∙ ap (λ xs. take new (paste xs place put (length put))) c.copy-within.ensures.after
+    ap (take new) (put_mid-paste place _ _ _ put (length put) c.copy_from_slice.ensures.after (omega arith) refl)
+    ∙ ap (λ xs. take new (paste xs place put (length put))) c.copy_within.ensures.after
     ∙ flat_spliced cells put used place count n new (omega arith) (omega arith) c.requires.inside c.requires.fits

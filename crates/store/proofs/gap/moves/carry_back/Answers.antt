@@ -9,5 +9,5 @@ returns c =
     let count = c.args.count in
     let size = c.args.size in
     let all : count - 0 ≡ count = omega arith in
-    ap (drop size) (c.copy-within.ensures.after ∙ ap (paste cells size cells) all)
+    ap (drop size) (c.copy_within.ensures.after ∙ ap (paste cells size cells) all)
     ∙ carried_back cells count size c.requires

@@ -10,5 +10,5 @@ returns c =
     let all : size + count - size ≡ count = omega arith in
     let none : 0 + (size + count - size) ≡ count = omega arith in
     ap (λ xs. take count xs ++ drop (count + size) xs)
-    (c.copy-within.ensures.after ∙ (λ i. take (all i) (drop size cells) ++ drop (none i) cells))
+    (c.copy_within.ensures.after ∙ (λ i. take (all i) (drop size cells) ++ drop (none i) cells))
     ∙ carried_front cells count size c.requires

@@ -16,8 +16,8 @@ returns c =
       text = elim c.if-place-start.branch [
         | then-place-start w ↦
             let count = start - place in
-            let part = w.carry-back.new.cells in
-            let carried = simp take_rest at w.carry-back.ensures in
+            let part = w.carry_back.new.cells in
+            let carried = simp take_rest at w.carry_back.ensures in
             let start_is : place + count ≡ start = omega arith in
             let end_is : place + (count + size) ≡ end = omega arith in
             ap (λ xs. take place xs ++ drop (place + size) xs) (w.cells-is ∙ put_rest place cells part (omega arith))
@@ -25,8 +25,8 @@ returns c =
             ∙ (λ i. take (start_is i) cells ++ drop (end_is i) cells)
         | else-place-start w ↦
             let count = place - start in
-            let part = w.carry-front.new.cells in
-            let carried = simp take_rest at w.carry-front.ensures in
+            let part = w.carry_front.new.cells in
+            let carried = simp take_rest at w.carry_front.ensures in
             let start_is : place ≡ start + count = omega arith in
             let new_end_is : place + size ≡ start + (count + size) = omega arith in
             let end_is : start + size ≡ end = omega arith in

@@ -7,18 +7,18 @@ use Rattle.store.proofs.gap.moves.splice.Goals as goal
 
 pub returns : goal.returns
 returns c =
-    let moved = c.move-gap-moved.ensures in
-    let cells = c.move-gap-moved.new.cells in
+    let moved = c.move_gap-moved.ensures in
+    let cells = c.move_gap-moved.new.cells in
     let put = c.args.put.now in
     let place = c.args.place in
     let count = c.args.take in
-    let end = c.move-gap-moved.result.end in
-    let inside : place ≤ length cells = omega (arith, moved.end, c.move-gap-moved.auto.cells) in
-    let written = simp take_rest at c.write-front.ensures in
+    let end = c.move_gap-moved.result.end in
+    let inside : place ≤ length cells = omega (arith, moved.end, c.move_gap-moved.auto.cells) in
+    let written = simp take_rest at c.write_front.ensures in
     record {
       text =
           ap (λ xs. take (place + length put) xs ++ drop (end + count) xs)
-          (put_rest place cells c.write-front.new.cells inside ∙ ap (λ xs. take place cells ++ xs) written)
+          (put_rest place cells c.write_front.new.cells inside ∙ ap (λ xs. take place cells ++ xs) written)
           ∙ gap_spliced cells put place count end inside (omega (arith, moved.end))
           ∙ ap (spliced place count put) (ap (λ n. take n cells ++ drop end cells) (sym moved.start) ∙ moved.text);
       start = refl;

@@ -25,16 +25,16 @@ returns c =
     let place = c.args.place in
     let count = c.args.take in
     let new = s.used - count + length put in
-    let long = c.splice.auto.cells ∙ c.as-mut-slice.ensures.len in
+    let long = c.splice.auto.cells ∙ c.as_mut_slice.ensures.len in
     record {
       replaced = record {
-        told = told_of_text _ s.used _ _ _ _ c.if-not-is-possible.ensures c.capacity.ensures (sym (length_flat_text s));
+        told = told_of_text _ s.used _ _ _ _ c.if-not-is_possible.ensures c.capacity.ensures (sym (length_flat_text s));
         text =
             ap (take new) (with_items_is s.cells c.splice.new.cells long)
             ∙ c.splice.ensures
-            ∙ ap (λ xs. spliced place count put (take s.used xs)) c.as-mut-slice.ensures.value;
+            ∙ ap (λ xs. spliced place count put (take s.used xs)) c.as_mut_slice.ensures.value;
       };
-      same-room = refl;
+      same_room = refl;
       refused = λ no_way. absurd (search rules);
-      same-array-len = refl;
+      same_array_len = refl;
     }

@@ -23,8 +23,8 @@ returns-then-not-is-possible c =
 pub splice-self-requires : goal.splice-self-requires
 splice-self-requires c =
     let s = c.args.self.now in
-    let possible = c.if-not-is-possible.ensures in
-    grind (arith, nat_tests, possible, length_gap_text s, c.len.ensures, c.capacity.ensures, c.as-mut-slice.ensures.len)
+    let possible = c.if-not-is_possible.ensures in
+    grind (arith, nat_tests, possible, length_gap_text s, c.len.ensures, c.capacity.ensures, c.as_mut_slice.ensures.len)
 
 pub invariant-of-self : goal.invariant-of-self
 invariant-of-self c =
@@ -36,17 +36,17 @@ invariant-of-self c =
 pub returns : goal.returns
 returns c =
     let s = c.args.self.now in
-    let long = c.splice-self.auto.cells ∙ c.as-mut-slice.ensures.len in
+    let long = c.splice-self.auto.cells ∙ c.as_mut_slice.ensures.len in
     record {
       replaced = record {
-        told = told_of_text _ c.len.result _ _ _ _ c.if-not-is-possible.ensures c.capacity.ensures c.len.ensures;
+        told = told_of_text _ c.len.result _ _ _ _ c.if-not-is_possible.ensures c.capacity.ensures c.len.ensures;
         text =
             ap (around c.splice-self.result) (with_items_is s.cells c.splice-self.new.cells long)
             ∙ c.splice-self.ensures.text
-            ∙ ap (λ xs. spliced c.args.place c.args.take c.args.put.now (around s.gap xs)) c.as-mut-slice.ensures.value;
+            ∙ ap (λ xs. spliced c.args.place c.args.take c.args.put.now (around s.gap xs)) c.as_mut_slice.ensures.value;
       };
-      same-room = refl;
+      same_room = refl;
       refused = λ no_way. absurd (search rules);
-      same-array-len = refl;
+      same_array_len = refl;
       gap = c.splice-self.ensures.start;
     }
