@@ -2,7 +2,7 @@
 ghost use Rattle.std.specs.Prelude.{◌≡◌, ◌+◌, ◌-◌, ◌≤◌, false, length, take as first, vec_len};
 ghost use Rattle.store.specs.Stores.{flat_text, flat_room};
 ghost use Rattle.store.specs.Texts.{spliced, Replaced};
-ghost use Rattle.std.proofs.Common.{rules, arith};
+ghost use Rattle.std.proofs.Common.{rules};
 
 use crate::flat::FlatStore;
 use crate::limits::{capacity_of, is_possible};
@@ -13,9 +13,9 @@ impl TextStore for FlatStore {
 
     ghost room = { flat_room };
 
-    ghost within = { first_of (Prim.search rules, Prim.grind (arith, Self.row.coded.inj)) };
+    ghost within = { Prim.search rules };
 
-    ghost limited = { first_of (Prim.search rules, Prim.grind (arith, Self.row.coded.inj)) };
+    ghost limited = { Prim.search rules };
 
     fn len(&self) -> usize {
         self.used

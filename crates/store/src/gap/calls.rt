@@ -3,7 +3,7 @@ ghost use Rattle.std.specs.Prelude.{◌≡◌, ◌+◌, false, length, if◌then
 ghost use Rattle.store.specs.Stores.{gap_text, gap_room};
 ghost use Rattle.store.specs.Texts.{Replaced};
 ghost use Rattle.store.specs.Lengths.{gap_text_within};
-ghost use Rattle.std.proofs.Common.{rules, arith};
+ghost use Rattle.std.proofs.Common.{rules};
 
 use crate::gap::GapStore;
 use crate::gap::moves::splice;
@@ -17,7 +17,7 @@ impl TextStore for GapStore {
 
     ghost within = { gap_text_within };
 
-    ghost limited = { first_of (Prim.search rules, Prim.grind (arith, Self.row.coded.inj)) };
+    ghost limited = { Prim.search rules };
 
     fn len(&self) -> usize {
         self.gap.start + (self.cells.len() - self.gap.end)

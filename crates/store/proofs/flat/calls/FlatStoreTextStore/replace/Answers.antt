@@ -5,17 +5,17 @@ use Rattle.store.proofs.Replacing.{told_of_text}
 use Rattle.store.specs.Texts.{spliced}
 use Rattle.store.proofs.flat.calls.FlatStoreTextStore.replace.Goals as goal
 
-pub returns-then-not-is-possible : goal.returns-then-not-is-possible
-returns-then-not-is-possible c =
+pub returns-then-not-is_possible : goal.returns-then-not-is_possible
+returns-then-not-is_possible c =
     let s = c.args.self.now in
     record {
       replaced = record {
-        told = told_of_text _ s.used _ _ _ _ c.if-not-is-possible.ensures c.capacity.ensures (sym (length_flat_text s));
+        told = told_of_text _ s.used _ _ _ _ c.if-not-is_possible.ensures c.capacity.ensures (sym (length_flat_text s));
         text = refl;
       };
-      same-room = refl;
+      same_room = refl;
       refused = λ _. refl;
-      same-array-len = refl;
+      same_array_len = refl;
     }
 
 pub returns : goal.returns

@@ -5,8 +5,8 @@ use Rattle.store.specs.Lengths.{length_gap_text}
 use Rattle.store.specs.Stores.{gap_text}
 use Rattle.store.proofs.gap.calls.GapStoreTextStore.at.Goals as goal
 
-pub overflow-add-place : goal.overflow-add-place
-overflow-add-place c = omega (arith, length_gap_text c.args.self.now, c.args.self.now.cells.ok)
+pub overflow_add-place : goal.overflow_add-place
+overflow_add-place c = omega (arith, length_gap_text c.args.self.now, c.args.self.now.cells.ok)
 
 pub index-requires-then-place-len : goal.index-requires-then-place-len
 index-requires-then-place-len c = omega (arith, length_gap_text c.args.self.now)

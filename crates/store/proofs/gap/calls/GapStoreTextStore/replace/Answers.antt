@@ -7,16 +7,16 @@ use Rattle.store.specs.Gaps.{around}
 use Rattle.store.specs.Texts.{spliced}
 use Rattle.store.proofs.gap.calls.GapStoreTextStore.replace.Goals as goal
 
-pub returns-then-not-is-possible : goal.returns-then-not-is-possible
-returns-then-not-is-possible c =
+pub returns-then-not-is_possible : goal.returns-then-not-is_possible
+returns-then-not-is_possible c =
     record {
       replaced = record {
-        told = told_of_text _ c.len.result _ _ _ _ c.if-not-is-possible.ensures c.capacity.ensures c.len.ensures;
+        told = told_of_text _ c.len.result _ _ _ _ c.if-not-is_possible.ensures c.capacity.ensures c.len.ensures;
         text = refl;
       };
-      same-room = refl;
+      same_room = refl;
       refused = λ _. refl;
-      same-array-len = refl;
+      same_array_len = refl;
       gap = refl;
     }
 
@@ -26,10 +26,10 @@ splice-self-requires c =
     let possible = c.if-not-is_possible.ensures in
     grind (arith, nat_tests, possible, length_gap_text s, c.len.ensures, c.capacity.ensures, c.as_mut_slice.ensures.len)
 
-pub invariant-of-self : goal.invariant-of-self
-invariant-of-self c =
+pub invariant_of-self : goal.invariant_of-self
+invariant_of-self c =
     let s = c.args.self.now in
-    let possible = c.if-not-is-possible.ensures in
+    let possible = c.if-not-is_possible.ensures in
     let new = c.splice-self.ensures in
     grind (arith, nat_tests, possible, length_gap_text s, c.len.ensures, c.capacity.ensures, new.start, new.end)
 
