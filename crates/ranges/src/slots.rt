@@ -1,7 +1,7 @@
 // The records that a table is filled into, and how one more is put among them.
 ghost use Rattle.std.specs.Prelude.{◌≡◌, ◌+◌, ◌<◌, ◌≤◌, true, length, take, IfOk, MatchResult, OnErr, OnOk};
 ghost use Rattle.std.specs.List.{insert};
-ghost use Rattle.ranges.specs.Places.{place as IsPlace-in};
+ghost use Rattle.ranges.specs.Places.{place as place_in};
 ghost use Rattle.ranges.specs.Rows.{Told, ascending, placed, shares_any};
 
 use crate::range::Range;
@@ -55,7 +55,7 @@ fn place_for<V: Copy>(records: &[Range<V>], used: usize, range: Range<V>) -> Res
     requires within { used ≤ length records.now }
     requires ascends { ascending (take used records.now) ≡ true }
     ensures told { Told (length records.now) (take used records.now) range result }
-    ensures place { IfOk result (λ p. p ≡ IsPlace-in range.first (take used records.now)) }
+    ensures place { IfOk result (λ p. p ≡ place_in range.first (take used records.now)) }
 {
     if range.last < range.first {
         return Err(Refusal::Backward);
@@ -74,7 +74,7 @@ fn place_for<V: Copy>(records: &[Range<V>], used: usize, range: Range<V>) -> Res
 // Whether a record has a code point in common with the range, whose place is known.
 fn is_shared<V: Copy>(records: &[Range<V>], place: usize, range: Range<V>) -> bool
     requires ascends { ascending records.now ≡ true }
-    requires place { place ≡ IsPlace-in range.first records.now }
+    requires place { place ≡ place_in range.first records.now }
     ensures { result ≡ shares_any records.now range }
 {
     place < records.len() && records[place].first <= range.last

@@ -9,7 +9,7 @@ pub put-requires : goal.put-requires
 put-requires g c =
     let rows = take c.args.used c.args.records.now in
     let range = c.args.range in
-    let found = c.in-ok-place.ensures in
+    let found = c.in_ok-place.ensures in
     let long = length-take-le c.args.used c.args.records.now c.requires.within in
     let inside = place_within range.first rows in
     record {
@@ -21,8 +21,8 @@ pub returns : goal.returns
 returns g c =
     let rows = take c.args.used c.args.records.now in
     let range = c.args.range in
-    let found = c.in-ok-place.ensures in
+    let found = c.in_ok-place.ensures in
     record {
       told = found.told;
-      rows = placed_from range rows (take (c.args.used + 1) c.put.new.records) c.in-ok-place.place c.put.ensures found.place;
+      rows = placed_from range rows (take (c.args.used + 1) c.put.new.records) c.in_ok-place.place c.put.ensures found.place;
     }

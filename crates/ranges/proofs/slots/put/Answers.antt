@@ -6,4 +6,4 @@ pub returns : goal.returns
 returns g c =
     let used = c.args.used in
     let place = c.args.place in
-    shifted c.args.records.now c.copy-within.new.self c.args.range used place (used - place) c.copy-within.ensures.after (omega arith) c.requires.free
+    shifted c.args.records.now c.copy_within.new.self c.args.range used place (used - place) c.copy_within.ensures.after (omega arith) c.requires.free

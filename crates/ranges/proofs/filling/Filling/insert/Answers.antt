@@ -11,6 +11,6 @@ returns g c =
       told = done.told;
       rows = done.rows;
       refused = done.refused;
-      same-room = done.same_len;
+      same_room = done.same_len;
       values = values_told c.insert.result c.args.range (kept c.args.self.now) (take slots.used slots.records.now) done.rows;
     }

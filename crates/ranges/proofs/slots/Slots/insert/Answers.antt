@@ -9,9 +9,9 @@ returns g c =
     let records = slots.records.now in
     let rows = take slots.used records in
     let range = c.args.range in
-    let done = c.in-ok-insert-among.ensures in
-    let after = c.insert-among.new.records in
-    let same = c.insert-among.auto.records in
+    let done = c.in_ok-insert_among.ensures in
+    let after = c.insert_among.new.records in
+    let same = c.insert_among.auto.records in
     let long = length-take-le slots.used records c.requires.within in
     record {
       told = done.told;

@@ -4,8 +4,8 @@ use Rattle.ranges.proofs.Covering.{count_below, covered_more}
 use Rattle.ranges.specs.Rows.{covered}
 use Rattle.ranges.proofs.table.Table.covered.Goals as goal
 
-pub overflow-sub-total : goal.overflow-sub-total
-overflow-sub-total g c =
+pub overflow_sub-total : goal.overflow_sub-total
+overflow_sub-total g c =
     (count_below c.loop-range.total c.args.self.now.records.now c.loop-range.range-index c.range-item.result c.loop-range-test.true c.range-item.is c.loop-range.invariant.1).1
 
 pub loop-range-preserved : goal.loop-range-preserved

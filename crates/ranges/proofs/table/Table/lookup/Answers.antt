@@ -10,7 +10,7 @@ returns-then-records-place g c =
     let rows = table.records.now in
     let at = c.args.c in
     let is =
-    lookup_found at rows c.place-of-place.result c.index-records-place.result c.index-records-place-then-records-place.result table.ascends c.place-of-place.ensures c.if-place-records.true c.if-records-place.true in
+    lookup_found at rows c.place_of-place.result c.index-records-place.result c.index-records-place-then-records-place.result table.ascends c.place_of-place.ensures c.if-place-records.true c.if-records-place.true in
     record {
       value = is;
       found = λ v some. lookup_listed at rows v (sym is ∙ some);
@@ -24,7 +24,7 @@ returns-else-place-records g c =
     let at = c.args.c in
     let is : None ≡ lookup rows at = elim c.else-place-records.branch [
       | else-place-records-via-then-place-records+else-records-place w ↦
-          lookup_missed at rows c.place-of-place.result w.index-records-place.result table.ascends c.place-of-place.ensures w.if-place-records.true w.if-records-place.false
+          lookup_missed at rows c.place_of-place.result w.index-records-place.result table.ascends c.place_of-place.ensures w.if-place-records.true w.if-records-place.false
       | else-place-records-via-else-place-records w ↦ sym (lookup_past at rows (omega arith))
     ] in
     record {
