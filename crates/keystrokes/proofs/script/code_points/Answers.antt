@@ -7,11 +7,11 @@ use Rattle.keystrokes.proofs.script.code_points.Goals as goal
 pub loop-word-preserved : goal.loop-word-preserved
 loop-word-preserved c =
     let put = c.loop-word.put in
-    let word = c.next-word.result.0.now in
-    let rest = c.next-word.result.1.now in
-    let first = c.next-word.ensures in
-    let pushed = c.in-ok-push.ensures in
-    let some : 0 < length word = omega (arith, false-eqb _ 0 c.if-is-empty.ensures) in
+    let word = c.next_word.result.0.now in
+    let rest = c.next_word.result.1.now in
+    let first = c.next_word.ensures in
+    let pushed = c.in_ok-push.ensures in
+    let some : 0 < length word = omega (arith, false-eqb _ 0 c.if-is_empty.ensures) in
     let number : suc (vec_len c.push.new.self) ≡ suc (suc (vec_len put)) = omega (arith, pushed.len) in (
       (λ i. behind (pushed.items i) (points (number i) (words rest)))
           ∙ points_more (vec_items put) c.in-Some.code (suc (vec_len put)) word (words rest) (sym c.in-Some.ensures)

@@ -7,30 +7,30 @@ pub returns-in-Nothing : goal.returns-in-Nothing
 returns-in-Nothing c =
     let number = c.args.number in
     let read = reading c.args.line.now in
-    let said = subst (λ s. Says number s read) c.in-Nothing.is c.in-ok-read-line.ensures in
+    let said = subst (λ s. Says number s read) c.in-Nothing.is c.in_ok-read_line.ensures in
     record {
       noted = ([], [], sym (append-nil _), sym (append-nil _), adds_nothing number read said);
       lines = refl;
     }
 
-pub returns-in-ok-push : goal.returns-in-ok-push
-returns-in-ok-push c =
+pub returns-in_ok-push-in-Press : goal.returns-in_ok-push-in-Press
+returns-in_ok-push-in-Press c =
     let number = c.args.number in
     let read = reading c.args.line.now in
     let key = c.in-Press.key in
-    let said = subst (λ s. Says number s read) c.in-Press.is c.in-ok-read-line.ensures in
+    let said = subst (λ s. Says number s read) c.in-Press.is c.in_ok-read_line.ensures in
     record {
-      noted = (key ∷ [], [], c.in-ok-push.ensures.items, sym (append-nil _), adds_press number key read said);
+      noted = (key ∷ [], [], c.in_ok-push-in-Press.ensures.items, sym (append-nil _), adds_press number key read said);
       lines = refl;
     }
 
-pub returns-in-ok-push-2 : goal.returns-in-ok-push-2
-returns-in-ok-push-2 c =
+pub returns-in_ok-push-in-Bad : goal.returns-in_ok-push-in-Bad
+returns-in_ok-push-in-Bad c =
     let number = c.args.number in
     let read = reading c.args.line.now in
     let f = c.in-Bad.fault in
-    let said = subst (λ s. Says number s read) c.in-Bad.is c.in-ok-read-line.ensures in
+    let said = subst (λ s. Says number s read) c.in-Bad.is c.in_ok-read_line.ensures in
     record {
-      noted = ([], record { line = number; fault = f } ∷ [], sym (append-nil _), c.in-ok-push-2.ensures.items, adds_bad number f read said);
+      noted = ([], record { line = number; fault = f } ∷ [], sym (append-nil _), c.in_ok-push-in-Bad.ensures.items, adds_bad number f read said);
       lines = refl;
     }

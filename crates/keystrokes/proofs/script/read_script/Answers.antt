@@ -16,11 +16,11 @@ pub loop-rest-preserved : goal.loop-rest-preserved
 loop-rest-preserved c =
     let rest = c.loop-rest.rest.now in
     let some : 0 < length rest = omega (arith, false-eqb _ 0 c.loop-rest-test.ensures) in
-    let noted = c.in-ok-note-line.ensures.noted in
+    let noted = c.in_ok-note_line.ensures.noted in
     one_more c.args.bytes.now rest c.cut.result.0.now c.cut.result.1.now c.loop-rest.script _ noted.0 noted.1 c.loop-rest.invariant (c.cut.ensures.rest some) (c.cut.ensures.shorter some) refl noted.2 noted.3 noted.4
 
-pub returns-in-err-note-line : goal.returns-in-err-note-line
-returns-in-err-note-line c = record { read = search rules; lined = lined c.args.bytes.now }
+pub returns-in_err-note_line : goal.returns-in_err-note_line
+returns-in_err-note_line c = record { read = search rules; lined = lined c.args.bytes.now }
 
 pub returns : goal.returns
 returns c =

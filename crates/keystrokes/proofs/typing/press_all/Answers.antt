@@ -17,11 +17,11 @@ loop-key-preserved g c =
     let keys_more = take_more keys i key c.loop-key-test.true ∙ ap (λ k. take i keys ++ (k ∷ [])) (sym c.key-item.is) in
     let pressed = subst (λ r. Pressed r key (s.text c.loop-key.store) c.press.result new) inv.0 c.press.ensures.pressed in
     let typed = typed_more room (take i keys) key text (vec_items c.loop-key.outcomes) c.press.result (s.text c.loop-key.store) new inv.3 pressed in (
-      c.press.ensures.same-room ∙ inv.0,
-      omega (arith, c.push-reserved.ensures.len, inv.1),
-      omega (arith, c.push-reserved.ensures.capacity, inv.2),
-      subst (λ ks. Typed room ks text (vec_items c.push-reserved.new.self) new) (sym keys_more)
-          (subst (λ os. Typed room (take i keys ++ (key ∷ [])) text os new) (sym c.push-reserved.ensures.items) typed),
+      c.press.ensures.same_room ∙ inv.0,
+      omega (arith, c.push_reserved.ensures.len, inv.1),
+      omega (arith, c.push_reserved.ensures.capacity, inv.2),
+      subst (λ ks. Typed room ks text (vec_items c.push_reserved.new.self) new) (sym keys_more)
+          (subst (λ os. Typed room (take i keys ++ (key ∷ [])) text os new) (sym c.push_reserved.ensures.items) typed),
     )
 
 pub returns : goal.returns
@@ -30,5 +30,5 @@ returns g c =
     let inv = c.loop-key.invariant in
     record {
       typed = subst (λ ks. Typed (s.room c.args.store.now) ks (s.text c.args.store.now) (vec_items c.loop-key.outcomes) (s.text c.loop-key.store)) (take_all _ _ c.loop-key-test.false) inv.3;
-      same-room = inv.0;
+      same_room = inv.0;
     }
