@@ -1,7 +1,7 @@
 -- Lines with their line feeds again. Assumes nothing.
 use Rattle.std.proofs.Common.{◌≡◌, ℕ, zero, suc, Bool, true, false, cond, eqb, ◌⊎◌, List, [], ◌∷◌, ◌++◌, sym, refl, ap, ◌∙◌, inl, inr, ⊎_elim, arith, eqb-true}
 use borrow.Author.Tests.{eqb-false}
-use Rattle.std.specs.List.{AllByRecursion as All}
+use Rattle.std.specs.List.{AllByRecursion}
 use Rattle.cutting.specs.Pieces.{onto, lines, fed, WithoutFeed, Unended, Lined}
 
 -- a byte that is no line feed goes to the front of the first line
@@ -17,7 +17,7 @@ plain_more : (b : ℕ) (p : List ℕ) → (b ≡ 10 → ⊥) → WithoutFeed p �
 plain_more b p other plain zero within = other
 plain_more b p other plain (suc k) within = plain k (omega arith)
 
-plain_onto : (b : ℕ) (ls : List (List ℕ)) → (b ≡ 10 → ⊥) → All WithoutFeed ls → All WithoutFeed (onto b ls)
+plain_onto : (b : ℕ) (ls : List (List ℕ)) → (b ≡ 10 → ⊥) → AllByRecursion WithoutFeed ls → AllByRecursion WithoutFeed (onto b ls)
 plain_onto b [] other plain = (plain_more b [] other (λ k within. absurd (omega arith)), tt)
 plain_onto b (p ∷ ps) other plain = (plain_more b p other plain.0, plain.1)
 
@@ -33,7 +33,7 @@ whole_more b bs ls more =
     ⊎_elim (λ w. inl (more ∙ ap (λ l. b ∷ l) w)) (λ w. inr (more ∙ ap (λ l. b ∷ l) w.0, longer b bs w.1))
 
 -- one byte more in front, by whether it is a line feed
-one_byte : (b : ℕ) (bs : List ℕ) (v : Bool) → eqb b 10 ≡ v → Lined bs → All WithoutFeed (cond v ([] ∷ lines bs) (onto b (lines bs))) × Whole (cond v ([] ∷ lines bs) (onto b (lines bs))) (b ∷ bs)
+one_byte : (b : ℕ) (bs : List ℕ) (v : Bool) → eqb b 10 ≡ v → Lined bs → AllByRecursion WithoutFeed (cond v ([] ∷ lines bs) (onto b (lines bs))) × Whole (cond v ([] ∷ lines bs) (onto b (lines bs))) (b ∷ bs)
 one_byte b bs true e h =
     let feed : 10 ≡ b = sym (eqb-true b 10 e) in
     (((λ k within. absurd (omega arith)), h.plain), whole_more b bs ([] ∷ lines bs) (ap (λ c. c ∷ fed (lines bs)) feed) h.whole)

@@ -1,6 +1,6 @@
 -- Rows of bytes cut into pieces: a script into lines, a line into words. Assumes nothing.
 use Rattle.std.specs.Prelude.{◌≡◌, ℕ, ◌<◌, Bool, cond, ◌||◌, ◌⊎◌, List, [], ◌∷◌, ◌++◌, length, ◌==◌, ◌≢◌, slice_index}
-use Rattle.std.specs.List.{AllByRecursion as All}
+use Rattle.std.specs.List.{AllByRecursion}
 use Rattle.keystrokes.specs.declared.stops.Stop.{Stop}
 use Rattle.keystrokes.specs.declared.stops.Stop.TheVariants.{Newline, Hash, Blank}
 
@@ -41,7 +41,7 @@ pub record Unended (bytes : List ℕ) : Type 0 where
 
 -- what lines are: no line holds a line feed, and with one behind each they are the script, which may lack its last
 pub record Lined (bytes : List ℕ) : Type 0 where
-  pub plain : All WithoutFeed (lines bytes)
+  pub plain : AllByRecursion WithoutFeed (lines bytes)
   pub whole : (fed (lines bytes) ≡ bytes) ⊎ ((fed (lines bytes) ≡ bytes ++ (10 ∷ [])) × Unended bytes)
 
 -- the first piece, and nothing where there is none

@@ -3,7 +3,7 @@ use Rattle.std.specs.Prelude.{◌≡◌, ℕ, suc, ◌+◌, ◌<◌, Bool, true,
 use Rattle.std.proofs.Common.{⊎_elim, sym, ap, subst, ◌∙◌, add-one, arith, drop-cons}
 use Rattle.std.proofs.lemmas.Slice.Eq.{bytes_eq-Decides}
 use Rattle.std.proofs.lemmas.Bool.{cases_Bool}
-use Rattle.std.specs.List.{AllByRecursion as All}
+use Rattle.std.specs.List.{AllByRecursion}
 use Rattle.std.specs.Str.{bytes_eq}
 use Rattle.properties.specs.Names.{called, same_name}
 
@@ -37,7 +37,7 @@ called_some spelling (w ∷ ws) name v e =
     by_case false other e behind = behind e
 
 -- what holds of each value holds of the one that is found
-called_each : {V : Type 0} (P : V → Type 0) (spelling : V → List ℕ) (vs : List V) (name : List ℕ) (v : V) → All P vs → called spelling vs name ≡ Some v → P v
+called_each : {V : Type 0} (P : V → Type 0) (spelling : V → List ℕ) (vs : List V) (name : List ℕ) (v : V) → AllByRecursion P vs → called spelling vs name ≡ Some v → P v
 called_each P spelling [] name v each e = let z : ◌≡◌ {A = ℕ} 0 1 = cc in absurd (omega arith)
 called_each P spelling (w ∷ ws) name v each e =
     by_case (bytes_eq (spelling w) name) e (called_each P spelling ws name v each.1)
@@ -52,12 +52,12 @@ at_some Q None x h e = let z : ◌≡◌ {A = ℕ} 0 1 = cc in absurd (omega ari
 at_some Q (Some y) x h e = let same : y ≡ x = cc in subst Q same h
 
 -- each value whose spelling is its name in the file
-pub all_same : {V : Type 0} (spelling : V → List ℕ) (vs : List V) → All (λ v. same_name spelling v ≡ Some (spelling v)) vs
+pub all_same : {V : Type 0} (spelling : V → List ℕ) (vs : List V) → AllByRecursion (λ v. same_name spelling v ≡ Some (spelling v)) vs
 all_same spelling [] = tt
 all_same spelling (v ∷ vs) = (refl, all_same spelling vs)
 
 -- where the file lists the values by their spelling, what is found is listed under the name
-pub listed_called : {V : Type 0} (spelling : V → List ℕ) (listed : V → Option (List ℕ)) (vs : List V) → All (λ v. listed v ≡ Some (spelling v)) vs → (name : List ℕ) (v : V) → called spelling vs name ≡ Some v → listed v ≡ Some name
+pub listed_called : {V : Type 0} (spelling : V → List ℕ) (listed : V → Option (List ℕ)) (vs : List V) → AllByRecursion (λ v. listed v ≡ Some (spelling v)) vs → (name : List ℕ) (v : V) → called spelling vs name ≡ Some v → listed v ≡ Some name
 listed_called spelling listed vs each name v e =
     called_each (λ w. listed w ≡ Some (spelling w)) spelling vs name v each e ∙ ap Some (called_some spelling vs name v e)
 

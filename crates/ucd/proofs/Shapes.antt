@@ -3,7 +3,7 @@ use Rattle.std.proofs.Common.{◌≡◌, ℕ, ◌+◌, ◌-◌, ◌<◌, ◌≤�
 use Rattle.std.proofs.ByRecursion.{All-append, All-weaker}
 use Rattle.std.proofs.lemmas.List.{drop_at, get_or_at, take_all, take_at, take_more, nil_from_length}
 use Rattle.std.proofs.lemmas.Bool.{and_from, and_parts, cases_Bool, cond-true, cond-false, eq-eqb, eqb-true, eqb-false, le-ltb, lt-ltb, ltb-true, ltb-false, ne_eqb, or_left, true≢false}
-use Rattle.std.specs.List.{prefix_len, AllByRecursion as All}
+use Rattle.std.specs.List.{prefix_len, AllByRecursion}
 use Rattle.ucd.specs.Bytes.{is, stripped}
 use Rattle.ucd.specs.Lines.{Part, blank, listing, unreturned, core_of, field, whole, two_fields, parts_at, layout}
 use Rattle.ucd.specs.Written.{Breaks, Of, Padded, Written}
@@ -188,21 +188,21 @@ listing_written line r v c e = by_length (ltb 1024 (length line)) refl e
         (ltb-false 1024 (length line) short, by_core (eqb (length (core_of (eqb (length h.run) (length line)) h.run)) 0) (sym (at_parts line h.run h.rest h.whole h.of h.breaks) ∙ e))
 
 -- bytes of which nothing is left are blank, but for a carriage return
-pub light : (closing : Bool) (s : List ℕ) → core_of closing s ≡ [] → All (λ b. (is Blank b || eqb b 13) ≡ true) s
+pub light : (closing : Bool) (s : List ℕ) → core_of closing s ≡ [] → AllByRecursion (λ b. (is Blank b || eqb b 13) ≡ true) s
 light closing s none =
     let k = closed closing s in
     let p = subst (Padded k.second) (sym k.core ∙ none) (padded k.second) in
     let blanks : Of Blank k.second = subst (Of Blank) (sym p.whole) (All-append (λ b. is Blank b ≡ true) p.before p.behind p.blank_before p.blank_behind) in
     let front = All-weaker (λ b. is Blank b ≡ true) (λ b. (is Blank b || eqb b 13) ≡ true) (λ b e. or_left (is Blank b) (eqb b 13) e) k.second blanks in
-    let back : All (λ b. (is Blank b || eqb b 13) ≡ true) k.return = ⊎_elim (λ e. subst (All (λ b. (is Blank b || eqb b 13) ≡ true)) (sym e) tt) (λ e. subst (All (λ b. (is Blank b || eqb b 13) ≡ true)) (sym e.0) (refl, tt)) k.returned in
-    subst (All (λ b. (is Blank b || eqb b 13) ≡ true)) (sym k.parts) (All-append (λ b. (is Blank b || eqb b 13) ≡ true) k.second k.return front back)
+    let back : AllByRecursion (λ b. (is Blank b || eqb b 13) ≡ true) k.return = ⊎_elim (λ e. subst (AllByRecursion (λ b. (is Blank b || eqb b 13) ≡ true)) (sym e) tt) (λ e. subst (AllByRecursion (λ b. (is Blank b || eqb b 13) ≡ true)) (sym e.0) (refl, tt)) k.returned in
+    subst (AllByRecursion (λ b. (is Blank b || eqb b 13) ≡ true)) (sym k.parts) (All-append (λ b. (is Blank b || eqb b 13) ≡ true) k.second k.return front back)
 
 -- a ';' is left
 heavy : (closing : Bool) (s front rest : List ℕ) → s ≡ front ++ (59 ∷ rest) → eqb (length (core_of closing s)) 0 ≡ false
 heavy closing s front rest parts =
-    ⊎_elim (λ e. absurd (clash front (subst (All (λ b. (is Blank b || eqb b 13) ≡ true)) parts (light closing s (nil_from_length (core_of closing s) (eqb-true _ 0 e)))))) (λ e. e) (cases_Bool (eqb (length (core_of closing s)) 0))
+    ⊎_elim (λ e. absurd (clash front (subst (AllByRecursion (λ b. (is Blank b || eqb b 13) ≡ true)) parts (light closing s (nil_from_length (core_of closing s) (eqb-true _ 0 e)))))) (λ e. e) (cases_Bool (eqb (length (core_of closing s)) 0))
   where
-    clash : (t : List ℕ) → All (λ b. (is Blank b || eqb b 13) ≡ true) (t ++ (59 ∷ rest)) → ⊥
+    clash : (t : List ℕ) → AllByRecursion (λ b. (is Blank b || eqb b 13) ≡ true) (t ++ (59 ∷ rest)) → ⊥
     clash [] all = true≢false (sym all.0)
     clash (b ∷ t) all = clash t all.1
 

@@ -1,7 +1,7 @@
 -- Data lines as the files write them. Assumes nothing.
 use Rattle.std.specs.Prelude.{◌≡◌, ℕ, ◌-◌, ◌≤◌, true, false, ◌⊎◌, List, [], ◌∷◌, ◌++◌, reverse, length, Some, Ok, Err, Option, Result, ◌≢◌, slice_index}
 use Rattle.std.specs.Str.Parse.{digits_value as value}
-use Rattle.std.specs.List.{AllByRecursion as All}
+use Rattle.std.specs.List.{AllByRecursion}
 use Rattle.ucd.specs.Bytes.{is}
 use Rattle.ucd.specs.Lines.{Part, Layout, blank, listing}
 use Rattle.ucd.specs.declared.faults.LineFault.{LineFault}
@@ -10,7 +10,7 @@ use Rattle.ucd.specs.declared.kinds.Kind.TheVariants.{Uncommented, InField, Blan
 
 -- each byte is of the kind
 abbrev pub Of : Kind → List ℕ → Type 0
-Of kind s = All (λ b. is kind b ≡ true) s
+Of kind s = AllByRecursion (λ b. is kind b ≡ true) s
 
 -- the first byte, if there is one, is not
 abbrev pub Breaks : Kind → List ℕ → Type 0
