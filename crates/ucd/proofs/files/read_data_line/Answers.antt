@@ -21,7 +21,7 @@ returns-in-Lists g c =
     record {
       told = subst (λ e. Answered (room before) (kept before) number e r) (sym entry) c.keep.ensures.told;
       rows = subst (λ e. MatchResult r (λ _. kept after ≡ rows_with (kept before) e) (λ _. Untouched before after)) (sym entry) c.keep.ensures.rows;
-      same-room = c.keep.ensures.same-room;
+      same_room = c.keep.ensures.same_room;
       values = MatchResult-weaker r (grown_by_line g.P.Property.meant g.P.Property.shared (room before) number line range place (kept before) (kept after) r entry c.keep.ensures.told c.keep.ensures.values) (λ _ h. grown_told g.P.Property.meant g.P.Property.shared g.P.Property.listed g.met.P.Property.told g.met.P.Property.found line (Lists range place) entry (kept before) (kept after) h) (λ _ u. u);
     }
 
@@ -33,7 +33,7 @@ returns-in-Nothing g c =
     record {
       told = ap (fault_in (room table) (kept table) c.args.number) entry;
       rows = sym (ap (rows_with (kept table)) entry);
-      same-room = refl;
+      same_room = refl;
       values = told_nothing g.P.Property.meant g.P.Property.shared g.P.Property.listed g.met.P.Property.told g.met.P.Property.found line entry (kept table);
     }
 

@@ -13,7 +13,7 @@ returns-in-Ok g c =
     let shared = g.P.Property.shared in
     let ls = lines c.args.bytes.now in
     let before = c.new-filling.result in
-    let after = c.read-lines.new.table in
+    let after = c.read_lines.new.table in
     let count = c.in-Ok.count in
     let here = loaded listed meant shared (room before) ls (kept before) (kept after) count c.new-filling.ensures.empty c.in-Ok.ensures.goes in
     let told = subst (λ r. Loaded listed meant shared (room before) ls r count) (sym c.table.ensures) here in
@@ -29,7 +29,7 @@ returns-in-Err g c =
     let shared = g.P.Property.shared in
     let ls = lines c.args.bytes.now in
     let before = c.new-filling.result in
-    let after = c.read-lines.new.table in
+    let after = c.read_lines.new.table in
     let fault = c.in-Err.fault in
     let here = unloaded listed meant shared (room before) ls (kept before) (kept after) (rows c.new.result) fault c.new-filling.ensures.empty c.new.ensures.front c.in-Err.ensures.goes in
     record {

@@ -23,37 +23,37 @@ loop-rest-preserved g c =
     let rest = c.loop-rest.rest.now in
     let line = c.cut.result.0.now in
     let number = c.loop-rest.number in
-    let done = c.in-ok-read-data-line.ensures in
+    let done = c.in_ok-read_data_line.ensures in
     let some : 0 < length rest = omega (arith, false-eqb _ 0 c.loop-rest-test.ensures) in
     let taken = subst (λ n. fault_in n (kept middle) (number + 1) (entry_of meant shared line) ≡ None) c.loop-rest.invariant.1 done.told in (
-      sofar_more listed meant shared (room table) c.args.bytes.now rest line c.cut.result.1.now number (kept table) (kept middle) (kept c.read-data-line.new.table) c.loop-rest.invariant.0 (c.cut.ensures.rest some) (c.cut.ensures.shorter some) taken done.rows done.values,
-      done.same-room ∙ c.loop-rest.invariant.1,
+      sofar_more listed meant shared (room table) c.args.bytes.now rest line c.cut.result.1.now number (kept table) (kept middle) (kept c.read_data_line.new.table) c.loop-rest.invariant.0 (c.cut.ensures.rest some) (c.cut.ensures.shorter some) taken done.rows done.values,
+      done.same_room ∙ c.loop-rest.invariant.1,
     )
 
-pub returns-in-err-read-data-line : goal.returns-in-err-read-data-line
-returns-in-err-read-data-line g c =
+pub returns-in_err-read_data_line : goal.returns-in_err-read_data_line
+returns-in_err-read_data_line g c =
     let listed = g.P.Property.listed in
     let meant = g.P.Property.meant in
     let shared = g.P.Property.shared in
     let before = c.args.table.now in
     let middle = c.loop-rest.table in
-    let after = c.read-data-line.new.table in
+    let after = c.read_data_line.new.table in
     let ls = lines c.args.bytes.now in
     let rest = c.loop-rest.rest.now in
     let line = c.cut.result.0.now in
     let number = c.loop-rest.number in
-    let fault = c.in-err-read-data-line.field-0.0 in
-    let refused = c.in-err-read-data-line.ensures in
+    let fault = c.in_err-read_data_line.field-0.0 in
+    let refused = c.in_err-read_data_line.ensures in
     let some : 0 < length rest = omega (arith, false-eqb _ 0 c.loop-rest-test.ensures) in
     let told = subst (λ n. fault_in n (kept middle) (number + 1) (entry_of meant shared line) ≡ Some fault) c.loop-rest.invariant.1 refused.told in
     let stopped = sofar_stopped listed meant shared (room before) c.args.bytes.now rest line c.cut.result.1.now number (kept before) (kept middle) fault c.loop-rest.invariant.0 (c.cut.ensures.rest some) told in
     let same : kept middle ≡ kept after = λ i. take (sym refused.rows.1 i) (sym refused.rows.0 i) in
-    let left = err_from_is_err_and c.from-residual.result c.from-residual.ensures.1 in
-    let answer : c.from-residual.result ≡ Err fault = left.1 ∙ ap Err left.2 in
+    let left = err_from_is_err_and c.from_residual.result c.from_residual.ensures.1 in
+    let answer : c.from_residual.result ≡ Err fault = left.1 ∙ ap Err left.2 in
     let stays = subst (λ rows. Stopped meant shared (room before) ls (kept before) rows fault) same stopped in
     record {
       goes = subst (Goes listed meant shared (room before) ls (kept before) (kept after)) (sym answer) stays;
-      same-room = refused.same-room ∙ c.loop-rest.invariant.1;
+      same_room = refused.same_room ∙ c.loop-rest.invariant.1;
     }
 
 pub returns : goal.returns
@@ -68,5 +68,5 @@ returns g c =
     let all = sofar_all listed meant shared (room before) bytes c.loop-rest.number (kept before) (kept after) (subst (λ rest. Sofar listed meant shared (room before) bytes rest c.loop-rest.number (kept before) (kept after)) none c.loop-rest.invariant.0) in
     record {
       goes = all;
-      same-room = c.loop-rest.invariant.1;
+      same_room = c.loop-rest.invariant.1;
     }
