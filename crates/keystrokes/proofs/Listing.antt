@@ -2,7 +2,7 @@
 use Rattle.std.proofs.Common.{◌≡◌, ℕ, suc, ◌+◌, ◌<◌, ◌≤◌, List, [], ◌∷◌, ◌++◌, map, length, vec_items, sym, refl, ap, ◌∙◌, subst, append_assoc, append-nil, arith}
 use Rattle.std.proofs.lemmas.List.{length-map, length_push, map_push}
 use Rattle.keystrokes.specs.Pieces.{lines}
-use Rattle.keystrokes.specs.Script.{Reading, fault, reading, Says, Adds, Listed, Reads}
+use Rattle.keystrokes.specs.Script.{Reading, reading, Says, Adds, Listed, Reads}
 use Rattle.keystrokes.specs.declared.faults.LineFault.{LineFault}
 use Rattle.keystrokes.specs.declared.scripts.BadLine.{BadLine}
 use Rattle.keystrokes.specs.declared.scripts.Script.{Script}

@@ -47,7 +47,7 @@ fn lines(rt: HostRuntime) -> Result<(), Fail> {
     assert_eq!(rt; script.lines, 7);
     assert!(rt; script.keys.len() == 2);
     let first = &script.keys[0];
-    assert_eq!(rt; first.put.as_slice(), &[0x41, 0x1F600]);
+    assert_eq!(rt; first.put.as_slice(), [0x41_u32, 0x1F600].as_slice());
     let second = &script.keys[1];
     assert_eq!(rt; (second.line, second.place, second.take), (7, 3, 2));
     assert!(rt; script.bad.len() == 3);

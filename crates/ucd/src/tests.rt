@@ -123,9 +123,9 @@ fn parts(rt: HostRuntime) -> Result<(), Fail> {
                 comment,
             },
         ) => {
-            assert_eq!(rt; (range.bytes, range.place), (b"0041", 1));
-            assert_eq!(rt; (value.bytes, value.place), (b"AL", 8));
-            assert_eq!(rt; (comment.bytes, comment.place), (b"# A", 11));
+            assert_eq!(rt; (range.bytes, range.place), (b"0041".as_slice(), 1));
+            assert_eq!(rt; (value.bytes, value.place), (b"AL".as_slice(), 8));
+            assert_eq!(rt; (comment.bytes, comment.place), (b"# A".as_slice(), 11));
             Ok(())
         }
         _ => Err(Fail::new("no listing")),
