@@ -5,6 +5,7 @@ use anyhow::anyhow;
 use keystrokes::{Outcome, Script, read_script, replay_on_both, same_text, text_of};
 use std::alloc::{AllocError, Global};
 use std::io::Read;
+use std::process::ExitCode;
 use std::{env, fs};
 use store::{CAPACITY_LIMIT, FlatStore, GapStore, TextStore};
 
@@ -133,12 +134,12 @@ fn run(rt: &HostRuntime) -> anyhow::Result<()> {
     Ok(())
 }
 
-fn main(rt: HostRuntime) -> anyhow::Result<()> {
+fn main(rt: HostRuntime) -> ExitCode {
     match run(&rt) {
-        Ok(()) => Ok(()),
+        Ok(()) => ExitCode::SUCCESS,
         Err(e) => {
-            eprintln!(rt; "panes: {e}")?;
-            Err(e)
+            let _ = eprintln!(rt; "panes: {e}");
+            ExitCode::FAILURE
         }
     }
 }

@@ -39,7 +39,7 @@ fn tell_fault(rt: &HostRuntime, folder: &str, name: &str, fault: Fault) -> anyho
     let number = fault.reason.number();
     let sentence = fault.reason.sentence();
     eprintln!(rt;
-        "panes: {folder}/{name}: line {line}, field {field}, byte {place}: refused {number}: {sentence}"
+        "panes_tables: {folder}/{name}: line {line}, field {field}, byte {place}: refused {number}: {sentence}"
     )?;
     Ok(())
 }

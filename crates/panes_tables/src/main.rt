@@ -15,9 +15,10 @@ use files::{read_input, read_path};
 use properties::{Category, GraphemeClass, LineClass, Width};
 use script::replay_script;
 use std::env;
+use std::process::ExitCode;
 use store::TextStore;
 
-const USAGE: &str = "usage: panes [--data DIR] [FILE]
+const USAGE: &str = "usage: panes_tables [--data DIR] [FILE]
 
 Loads the Unicode 15.0.0 data files of DIR, which is 'data' unless it is given:
 LineBreak.txt, GraphemeBreakProperty.txt, DerivedGeneralCategory.txt,
@@ -45,7 +46,7 @@ fn with_folder(
     surplus: Option<String>,
 ) -> anyhow::Result<Task> {
     if surplus.is_some() {
-        return Err(anyhow!("more than one file was given; see panes --help"));
+        return Err(anyhow!("more than one file was given; see panes_tables --help"));
     }
     Ok(Task::Replay(folder, script))
 }
@@ -64,7 +65,7 @@ fn read_task(rt: &HostRuntime) -> anyhow::Result<Task> {
         return with_folder(folder, Some(word), words.next());
     }
     let Some(folder) = words.next() else {
-        return Err(anyhow!("--data wants a folder; see panes --help"));
+        return Err(anyhow!("--data wants a folder; see panes_tables --help"));
     };
     let script = words.next();
     with_folder(folder, script, words.next())
@@ -127,12 +128,12 @@ fn run(rt: &HostRuntime) -> anyhow::Result<()> {
     Ok(())
 }
 
-fn main(rt: HostRuntime) -> anyhow::Result<()> {
+fn main(rt: HostRuntime) -> ExitCode {
     match run(&rt) {
-        Ok(()) => Ok(()),
+        Ok(()) => ExitCode::SUCCESS,
         Err(e) => {
-            eprintln!(rt; "panes: {e}")?;
-            Err(e)
+            let _ = eprintln!(rt; "panes_tables: {e}");
+            ExitCode::FAILURE
         }
     }
 }
