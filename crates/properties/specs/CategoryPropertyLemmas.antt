@@ -1,3 +1,4 @@
+-- Each general category is the one that its name stands for. Assumes nothing.
 use Rattle.std.specs.Prelude.{◌≡◌, Some, refl}
 use Rattle.properties.specs.Names.{called}
 use Rattle.properties.specs.Categories.{category_name, categories}

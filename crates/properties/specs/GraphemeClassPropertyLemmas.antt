@@ -1,3 +1,4 @@
+-- Each grapheme class that the file lists is the one that its name stands for. Assumes nothing.
 use Rattle.std.specs.Prelude.{◌≡◌, IfSome, Some, refl}
 use Rattle.properties.specs.GraphemeClasses.{grapheme_name, grapheme_classes, listed_name}
 use Rattle.properties.specs.Names.{called}

@@ -1,3 +1,4 @@
+-- The one value that the file lists is the one that its name stands for. Assumes nothing.
 use Rattle.std.specs.Prelude.{◌≡◌, Bool, true, false, IfSome, Some, refl}
 use Rattle.properties.specs.Pictographs.{pictograph_name, pictograph_read}
 

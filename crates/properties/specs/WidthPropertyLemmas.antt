@@ -1,3 +1,4 @@
+-- Each East Asian width is the one that its name stands for. Assumes nothing.
 use Rattle.std.specs.Prelude.{◌≡◌, Some, refl}
 use Rattle.properties.specs.Names.{called}
 use Rattle.properties.specs.Widths.{width_name, widths}
