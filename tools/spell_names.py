@@ -6,7 +6,7 @@ usage: python3 tools/spell_names.py [--dry]      at the top of the repository, o
 A definition, lemma or local name of a .antt file that is written with dashes goes to snake case, and one
 that begins with a capital to upper camel case, in every .antt file and in every clause and import of a .rt
 file. Names of src/, labels, goals that Rattle names, and the library's names stay; so do strings and
-comments. Names that would fall together are printed and nothing is written.
+comments. Names that fall together are printed. With --dry nothing is written.
 """
 import collections
 import os
