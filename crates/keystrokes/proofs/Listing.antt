@@ -1,22 +1,20 @@
 -- Keystrokes and bad lines of a script, line by line. Assumes nothing.
-use Rattle.std.proofs.Common.{◌≡◌, ℕ, suc, ◌+◌, ◌<◌, ◌≤◌, List, [], ◌∷◌, ◌++◌, map, length, vec_items, sym, refl, ap, ◌∙◌, subst, append_assoc, append-nil, arith}
+use Rattle.std.proofs.Common.{◌≡◌, ℕ, suc, ◌+◌, List, [], ◌∷◌, ◌++◌, map, length, vec_items, sym, refl, ap, ◌∙◌, subst, append_assoc, append-nil, arith}
 use Rattle.std.proofs.lemmas.List.{length-map, length_push, map_push}
-use Rattle.keystrokes.specs.Pieces.{lines}
-use Rattle.keystrokes.specs.Script.{Reading, reading, Says, Adds, Listed, Reads}
+use Rattle.keystrokes.specs.Script.{Reading, nothing, press, fault, reading, Adds, Listed, Reads}
 use Rattle.keystrokes.specs.declared.faults.LineFault.{LineFault}
 use Rattle.keystrokes.specs.declared.scripts.BadLine.{BadLine}
 use Rattle.keystrokes.specs.declared.scripts.Script.{Script}
-use Rattle.keystrokes.specs.declared.scripts.Statement.TheVariants.{Nothing, Press, Bad}
 use Rattle.keystrokes.specs.declared.strokes.Keystroke.{Keystroke}
 
--- what each statement adds
-pub adds_nothing : (number : ℕ) (x : Reading) → Says number Nothing x → Adds number x [] []
+-- what each line adds
+pub adds_nothing : (number : ℕ) (x : Reading) → x ≡ nothing → Adds number x [] []
 adds_nothing number x said = subst (λ y. Adds number y [] []) (sym said) (refl, refl)
 
-pub adds_press : (number : ℕ) (k : Keystroke) (x : Reading) → Says number (Press k) x → Adds number x (k ∷ []) []
+pub adds_press : (number : ℕ) (k : Keystroke) (x : Reading) → (k.line ≡ number) × (x ≡ press k.place k.take (vec_items k.put)) → Adds number x (k ∷ []) []
 adds_press number k x said = subst (λ y. Adds number y (k ∷ []) []) (sym said.1) (k, refl, said.0, refl, refl, refl, refl)
 
-pub adds_bad : (number : ℕ) (f : LineFault) (x : Reading) → Says number (Bad f) x → Adds number x [] (record { line = number; fault = f } ∷ [])
+pub adds_bad : (number : ℕ) (f : LineFault) (x : Reading) → x ≡ fault f → Adds number x [] (record { line = number; fault = f } ∷ [])
 adds_bad number f x said = subst (λ y. Adds number y [] (record { line = number; fault = f } ∷ [])) (sym said) (refl, refl)
 
 -- one line more
@@ -44,21 +42,20 @@ listed_more number (x ∷ rs) r keys more bad bads h adds =
       listed_more (suc number) rs r h.1 more h.4 bads h.7 (subst (λ n. Adds n r more bads) next adds),
     )
 
--- the loop's invariant: the script lists the lines of bytes before rest
-pub record Sofar (bytes rest : List ℕ) (s : Script) : Type 0 where
+-- the script lists the lines that come before those left
+pub record Sofar (all left : List (List ℕ)) (s : Script) : Type 0 where
   pub seen : List (List ℕ)
-  pub split : lines bytes ≡ seen ++ lines rest
+  pub split : all ≡ seen ++ left
   pub read : Reads seen s
-  pub few : s.lines + length rest ≤ length bytes
 
-pub one_more : (bytes rest line behind : List ℕ) (old new : Script) (more : List Keystroke) (bads : List BadLine) → Sofar bytes rest old → lines rest ≡ line ∷ lines behind → length behind < length rest → new.lines ≡ old.lines + 1 → vec_items new.keys ≡ vec_items old.keys ++ more → vec_items new.bad ≡ vec_items old.bad ++ bads → Adds (old.lines + 1) (reading line) more bads → Sofar bytes behind new
-one_more bytes rest line behind old new more bads h cut shorter count keys-are bad-are adds =
+pub one_more : (all left : List (List ℕ)) (line : List ℕ) (old new : Script) (more : List Keystroke) (bads : List BadLine) → Sofar all (line ∷ left) old → new.lines ≡ old.lines + 1 → vec_items new.keys ≡ vec_items old.keys ++ more → vec_items new.bad ≡ vec_items old.bad ++ bads → Adds (old.lines + 1) (reading line) more bads → Sofar all left new
+one_more all left line old new more bads h count keys-are bad-are adds =
     let seen = h.seen in
     let number : old.lines + 1 ≡ 1 + length (map reading seen) = omega (arith, h.read.count, length-map seen reading) in
     let listed = listed_more 1 (map reading seen) (reading line) (vec_items old.keys) more (vec_items old.bad) bads h.read.listed (subst (λ n. Adds n (reading line) more bads) number adds) in
     record {
       seen = seen ++ (line ∷ []);
-      split = h.split ∙ ap (λ ls. seen ++ ls) cut ∙ sym (append_assoc seen (line ∷ []) (lines behind));
+      split = h.split ∙ sym (append_assoc seen (line ∷ []) left);
       read = record {
         count = omega (arith, count, h.read.count, length_push seen line);
         listed =
@@ -66,8 +63,7 @@ one_more bytes rest line behind old new more bads h cut shorter count keys-are b
             (subst (λ ks. Listed 1 (map reading seen ++ (reading line ∷ [])) ks (vec_items new.bad)) (sym keys-are)
             (subst (λ bs. Listed 1 (map reading seen ++ (reading line ∷ [])) (vec_items old.keys ++ more) bs) (sym bad-are) listed));
       };
-      few = omega (arith, h.few, count, shorter);
     }
 
-pub no_more : (bytes : List ℕ) (s : Script) → Sofar bytes [] s → Reads (lines bytes) s
-no_more bytes s h = subst (λ ls. Reads ls s) (sym (h.split ∙ append-nil h.seen)) h.read
+pub no_more : (all : List (List ℕ)) (s : Script) → Sofar all [] s → Reads all s
+no_more all s h = subst (λ ls. Reads ls s) (sym (h.split ∙ append-nil h.seen)) h.read

@@ -1,8 +1,7 @@
 -- Lists of keystrokes. Assumes nothing.
 use Rattle.std.proofs.Common.{◌≡◌, ℕ, List, [], ◌∷◌, ◌++◌, sym, refl, ap, ◌∙◌, subst}
-use Rattle.keystrokes.specs.Typing.{after, Pressed, Typed, TypedOnce}
+use Rattle.keystrokes.specs.Typing.{Outcome, after, Pressed, Typed, TypedOnce}
 use Rattle.keystrokes.specs.declared.strokes.Keystroke.{Keystroke}
-use Rattle.keystrokes.specs.declared.strokes.Outcome.{Outcome}
 
 -- one keystroke more
 pub typed_more : (capacity : ℕ) (ks : List Keystroke) (k : Keystroke) (before : List ℕ) (outcomes : List Outcome) (o : Outcome) (middle end : List ℕ) → Typed capacity ks before outcomes middle → Pressed capacity k middle o end → Typed capacity (ks ++ (k ∷ [])) before (outcomes ++ (o ∷ [])) end

@@ -2,13 +2,13 @@
 use Rattle.std.specs.Prelude.{◌≡◌, ℕ, suc, List, [], ◌∷◌, ◌++◌, map, length, Some, None, Ok, Err, vec_items, Option, Result, Vec}
 use Rattle.std.specs.declared.alloc.Global.{Global}
 use Rattle.keystrokes.specs.Numerals.{decimal, code_point}
-use Rattle.keystrokes.specs.Pieces.{statement, words}
+use Rattle.cutting.specs.Pieces.{statement, words}
+use Rattle.keystrokes.specs.declared.faults.LineError.{LineError}
+use Rattle.keystrokes.specs.declared.faults.LineError.TheVariants.{Fault, OutOfMemory}
 use Rattle.keystrokes.specs.declared.faults.LineFault.{LineFault}
 use Rattle.keystrokes.specs.declared.faults.LineFault.TheVariants.{BadPlace, NoCount, BadCount, BadCodePoint}
 use Rattle.keystrokes.specs.declared.scripts.BadLine.{BadLine}
 use Rattle.keystrokes.specs.declared.scripts.Script.{Script}
-use Rattle.keystrokes.specs.declared.scripts.Statement.{Statement}
-use Rattle.keystrokes.specs.declared.scripts.Statement.TheVariants.{Nothing, Press, Bad}
 use Rattle.keystrokes.specs.declared.strokes.Keystroke.{Keystroke}
 
 -- one code point more in front, if the word writes one; n is the word's number
@@ -22,10 +22,11 @@ abbrev pub points : ℕ → List (List ℕ) → Result (List ℕ) ℕ
 points n [] = Ok []
 points n (w ∷ ws) = point n (code_point w) (points (suc n) ws)
 
--- the code points as the program holds them
-abbrev pub Spells : Result (Vec ℕ Global) ℕ → Result (List ℕ) ℕ → Type 0
+-- the code points as the program holds them, unless memory ran out
+abbrev pub Spells : Result (Vec ℕ Global) LineError → Result (List ℕ) ℕ → Type 0
 Spells (Ok put) x = x ≡ Ok (vec_items put)
-Spells (Err n) x = x ≡ Err n
+Spells (Err (Fault f)) x = (n : ℕ) × (f ≡ BadCodePoint n) × (x ≡ Err n)
+Spells (Err OutOfMemory) x = Unit {0}
 
 -- nothing, a keystroke as its place, its count to take and its code points, or why there is none
 pub data Reading : Type 0 where
@@ -58,11 +59,12 @@ with_words (w ∷ ws) = with_place (decimal w) ws
 abbrev pub reading : List ℕ → Reading
 reading line = with_words (words (statement line))
 
--- what the line of this number says, as the program holds it
-abbrev pub Says : ℕ → Statement → Reading → Type 0
-Says number Nothing x = x ≡ nothing
-Says number (Press k) x = (k.line ≡ number) × (x ≡ press k.place k.take (vec_items k.put))
-Says number (Bad f) x = x ≡ fault f
+-- what the line of this number says, as the program holds it, unless memory ran out
+abbrev pub Says : ℕ → Result (Option Keystroke) LineError → Reading → Type 0
+Says number (Ok None) x = x ≡ nothing
+Says number (Ok (Some k)) x = (k.line ≡ number) × (x ≡ press k.place k.take (vec_items k.put))
+Says number (Err (Fault f)) x = x ≡ fault f
+Says number (Err OutOfMemory) x = Unit {0}
 
 -- what one reading adds to the keystrokes and the bad lines
 abbrev pub Adds : ℕ → Reading → List Keystroke → List BadLine → Type 0

@@ -12,12 +12,10 @@ fn number(word: &[u8], base: u32) -> Option<usize>
     requires high { base ≤ 36 }
     ensures { SomeIff result (IsNumeral base word.now × (digits_value base word.now < 2 ^ 64)) (digits_value base word.now) }
 {
-    if !word.is_empty() && word[0] == b'+' {
+    if word.first() == Some(&b'+') {
         return None;
     }
-    let Ok(text) = str::from_utf8(word) else {
-        return None;
-    };
+    let text = str::from_utf8(word).ok()?;
     usize::from_str_radix(text, base).ok()
 }
 
@@ -32,14 +30,7 @@ pub(crate) fn read_decimal(word: &[u8]) -> Option<usize>
 pub(crate) fn read_code_point(word: &[u8]) -> Option<u32>
     ensures { result ≡ code_point word.now }
 {
-    let Some(n) = number(word, 16) else {
-        return None;
-    };
-    let Ok(code) = u32::try_from(n) else {
-        return None;
-    };
-    match char::from_u32(code) {
-        Some(_) => Some(code),
-        None => None,
-    }
+    let code = u32::try_from(number(word, 16)?).ok()?;
+    char::from_u32(code)?;
+    Some(code)
 }

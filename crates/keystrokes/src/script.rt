@@ -1,63 +1,46 @@
 // Reads a keystroke script: a keystroke a line, as a place, a count to take and code points.
 ghost use Rattle.std.specs.Prelude.{◌≡◌, List, ◌++◌, IfOk, OnOk};
-ghost use Rattle.keystrokes.specs.Pieces.{lines, words, Lined};
+ghost use Rattle.cutting.specs.Left.{words_left};
+ghost use Rattle.cutting.specs.Pieces.{lines, Lined};
 ghost use Rattle.keystrokes.specs.Script.{points, Spells, reading, Says, Adds, Reads};
 
-use crate::cutting::{cut, next_word};
-use crate::faults::LineFault;
+use crate::faults::{LineError, LineFault};
 use crate::numbers::{read_code_point, read_decimal};
-use crate::scripts::{BadLine, Script, Statement};
-use crate::stops::Stop;
+use crate::scripts::{BadLine, Script};
 use crate::strokes::Keystroke;
+use cutting::{Lines, Words, statement};
 use std::alloc::{AllocError, Global};
 
-// The code points that the words write, or the number of the first word that writes none.
-fn code_points(heap: Global, text: &[u8]) -> Result<Result<Vec<u32>, usize>, AllocError>
-    ensures { IfOk result (λ x. Spells x (points 1 (words text.now))) }
+// The code points that the words write.
+fn code_points(heap: Global, words: Words<'_>) -> Result<Vec<u32>, LineError>
+    ensures { Spells result (points 1 (words_left words.entry)) }
 {
     let mut put = Vec::new(heap);
-    let mut rest = text;
-    loop {
-        let (word, behind) = next_word(rest);
-        if word.is_empty() {
-            return Ok(Ok(put));
-        }
-        let Some(code) = read_code_point(word) else {
-            return Ok(Err(put.len() + 1));
-        };
+    for word in words {
+        let code = read_code_point(word).ok_or(LineFault::BadCodePoint(put.len() + 1))?;
         put.push(code)?;
-        rest = behind;
     }
+    Ok(put)
 }
 
-// What the line of this number says.
-fn read_line(heap: Global, number: usize, line: &[u8]) -> Result<Statement, AllocError>
-    ensures { IfOk result (λ s. Says number s (reading line.now)) }
+// The keystroke of the line of this number, or none where it is blank but for a comment.
+fn read_line(heap: Global, number: usize, line: &[u8]) -> Result<Option<Keystroke>, LineError>
+    ensures { Says number result (reading line.now) }
 {
-    let (statement, _) = cut(line, Stop::Hash);
-    let (first, behind) = next_word(statement);
-    if first.is_empty() {
-        return Ok(Statement::Nothing);
-    }
-    let Some(place) = read_decimal(first) else {
-        return Ok(Statement::Bad(LineFault::BadPlace));
+    let mut words = Words::new(statement(line));
+    let Some(first) = words.next() else {
+        return Ok(None);
     };
-    let (second, rest) = next_word(behind);
-    if second.is_empty() {
-        return Ok(Statement::Bad(LineFault::NoCount));
-    }
-    let Some(take) = read_decimal(second) else {
-        return Ok(Statement::Bad(LineFault::BadCount));
-    };
-    match code_points(heap, rest)? {
-        Ok(put) => Ok(Statement::Press(Keystroke {
-            line: number,
-            place,
-            take,
-            put,
-        })),
-        Err(n) => Ok(Statement::Bad(LineFault::BadCodePoint(n))),
-    }
+    let place = read_decimal(first).ok_or(LineFault::BadPlace)?;
+    let second = words.next().ok_or(LineFault::NoCount)?;
+    let take = read_decimal(second).ok_or(LineFault::BadCount)?;
+    let put = code_points(heap, words)?;
+    Ok(Some(Keystroke {
+        line: number,
+        place,
+        take,
+        put,
+    }))
 }
 
 // Adds what the line of this number says.
@@ -70,13 +53,14 @@ fn note_line(
     ensures noted { OnOk result ((more : List Keystroke) × (bad : List BadLine) × (script.new.keys.items ≡ script.old.keys.items ++ more) × (script.new.bad.items ≡ script.old.bad.items ++ bad) × Adds number (reading line.now) more bad) }
     ensures lines { script.new.lines ≡ script.old.lines }
 {
-    match read_line(heap, number, line)? {
-        Statement::Nothing => {}
-        Statement::Press(key) => script.keys.push(key)?,
-        Statement::Bad(fault) => script.bad.push(BadLine {
+    match read_line(heap, number, line) {
+        Ok(None) => {}
+        Ok(Some(key)) => script.keys.push(key)?,
+        Err(LineError::Fault(fault)) => script.bad.push(BadLine {
             line: number,
             fault,
         })?,
+        Err(LineError::OutOfMemory) => return Err(AllocError),
     }
     Ok(())
 }
@@ -91,13 +75,10 @@ pub fn read_script(heap: Global, bytes: &[u8]) -> Result<Script, AllocError>
         keys: Vec::new(heap),
         bad: Vec::new(heap),
     };
-    let mut rest = bytes;
-    while !rest.is_empty() {
-        let (line, behind) = cut(rest, Stop::Newline);
+    for line in Lines::new(bytes) {
         let number = script.lines + 1;
         note_line(heap, &mut script, number, line)?;
         script.lines = number;
-        rest = behind;
     }
     Ok(script)
 }

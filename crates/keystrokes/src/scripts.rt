@@ -2,14 +2,6 @@
 use crate::faults::LineFault;
 use crate::strokes::Keystroke;
 
-// What one line says: nothing, where it is blank but for a comment.
-#[derive(Drop)]
-pub enum Statement {
-    Nothing,
-    Press(Keystroke),
-    Bad(LineFault),
-}
-
 // A line that is not blank and holds no keystroke.
 #[derive(Clone, Copy)]
 pub struct BadLine {

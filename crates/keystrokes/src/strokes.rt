@@ -1,4 +1,4 @@
-// What a keystroke is, and what may come of it.
+// What a keystroke is.
 
 // At a place, `take` code points give way to those of `put`.
 #[derive(Drop)]
@@ -8,13 +8,4 @@ pub struct Keystroke {
     pub place: usize,
     pub take: usize,
     pub put: Vec<u32>,
-}
-
-#[derive(Clone, Copy)]
-pub enum Outcome {
-    Done,
-    // The place, or the place plus what is to be taken, is above the length.
-    PastEnd,
-    // The new length would pass the capacity.
-    Full,
 }

@@ -1,6 +1,6 @@
 // Keystrokes at the edges of a store, and lines that hold none.
 use crate::typing::press;
-use crate::{Keystroke, read_script, text_of};
+use crate::{Keystroke, Refusal, read_script, text_of};
 use std::alloc::Global;
 use std::test::Fail;
 use store::{FlatStore, TextStore};
@@ -18,22 +18,16 @@ fn key(heap: Global, place: usize, take: usize, put: &[u32]) -> Result<Keystroke
 fn refusals(rt: HostRuntime) -> Result<(), Fail> {
     let heap = rt.alloc();
     let mut store = FlatStore::new(vec![in heap; 0; 2]?);
+    assert_eq!(rt; press(&mut store, &key(heap, 0, 0, &[65, 66])?), Ok(()));
     assert_eq!(rt;
-        press(&mut store, &key(heap, 0, 0, &[65, 66])?).refusal(),
-        None
+        press(&mut store, &key(heap, 2, 0, &[67])?).map_err(Refusal::number),
+        Err(13)
     );
     assert_eq!(rt;
-        press(&mut store, &key(heap, 2, 0, &[67])?).refusal(),
-        Some(13)
+        press(&mut store, &key(heap, 2, 1, &[67, 68, 69])?).map_err(Refusal::number),
+        Err(10)
     );
-    assert_eq!(rt;
-        press(&mut store, &key(heap, 2, 1, &[67, 68, 69])?).refusal(),
-        Some(10)
-    );
-    assert_eq!(rt;
-        press(&mut store, &key(heap, 1, 1, &[0xD800])?).refusal(),
-        None
-    );
+    assert_eq!(rt; press(&mut store, &key(heap, 1, 1, &[0xD800])?), Ok(()));
     assert_eq!(rt; text_of(heap, &store)?.as_str(), "A\u{FFFD}");
     Ok(())
 }

@@ -2,7 +2,8 @@
 ghost use Rattle.std.specs.Prelude.{◌≡◌, ◌≤◌, [], length, IfOk, vec_capacity, MatchResult};
 ghost use Rattle.keystrokes.specs.Typing.{Pressed, Typed, TypedOnce};
 
-use crate::strokes::{Keystroke, Outcome};
+use crate::refusals::{Outcome, Refusal};
+use crate::strokes::Keystroke;
 use std::alloc::{AllocError, Global};
 use store::TextStore;
 
@@ -13,11 +14,11 @@ pub(crate) fn press<S: TextStore>(store: &mut S, key: &Keystroke) -> Outcome
 {
     let len = store.len();
     if store.replace(key.place, key.take, key.put.as_slice()) {
-        Outcome::Done
+        Ok(())
     } else if len < key.place || len - key.place < key.take {
-        Outcome::PastEnd
+        Err(Refusal::PastEnd)
     } else {
-        Outcome::Full
+        Err(Refusal::Full)
     }
 }
 

@@ -1,9 +1,7 @@
-use Rattle.std.proofs.Common.{length}
+use Rattle.cutting.specs.Left.{lines_left}
+use Rattle.cutting.specs.Pieces.{lines}
 use Rattle.keystrokes.proofs.Listing.{Sofar}
 use Rattle.keystrokes.proofs.script.read_script.Given as goal
 
-abbrev pub invariant-loop-rest : goal.invariant-loop-rest
-invariant-loop-rest l = Sofar l.bytes l.rest l.script
-
-abbrev pub decreases-loop-rest : goal.decreases-loop-rest
-decreases-loop-rest l = length l.rest
+abbrev pub invariant-loop-line : goal.invariant-loop-line
+invariant-loop-line l = Sofar (lines l.bytes) (lines_left l.line-iterator) l.script
