@@ -1,6 +1,5 @@
 use Rattle.std.proofs.Common.{◌++◌, take, sym, ap, ◌∙◌, arith}
 use lib.Utf8.{encode}
-use Rattle.std.proofs.lemmas.List.{take_all}
 use Rattle.std.proofs.lemmas.Slice.{pushed}
 use Rattle.keystrokes.specs.Shown.{shown, utf8}
 use Rattle.keystrokes.proofs.Utf8Texts.{shown_is, utf8_more}
@@ -14,8 +13,3 @@ loop-place-preserved g c =
     pushed (encode c.unwrap_or.result) c.loop-place.invariant c.in_ok-push.was c.push.ensures.bytes
     ∙ ap (λ ch. utf8 (take place text) ++ encode ch) char_is
     ∙ sym (utf8_more text place (omega (arith, c.len-place-end.ensures, c.loop-place-test.true)))
-
-pub returns : goal.returns
-returns g c =
-    let text = g.S.TextStore.text c.args.store.now in
-    c.loop-place.invariant ∙ ap utf8 (take_all c.loop-place.place text (omega (arith, c.len-place-end.ensures, c.loop-place-test.false)))

@@ -1,5 +1,5 @@
 use Rattle.std.proofs.Common.{[], ◌∷◌, ◌++◌, take, vec_items, sym, ap, ◌∙◌, subst, arith}
-use Rattle.std.proofs.lemmas.List.{take_more, take_all}
+use Rattle.std.proofs.lemmas.List.{take_more}
 use Rattle.keystrokes.specs.Typing.{Pressed, Typed}
 use Rattle.keystrokes.proofs.Runs.{typed_more}
 use Rattle.keystrokes.proofs.typing.press_all.Goals as goal
@@ -23,12 +23,3 @@ loop-key-preserved g c =
       subst (λ ks. Typed room ks text (vec_items c.push_reserved.new.self) new) (sym keys_more)
           (subst (λ os. Typed room (take i keys ++ (key ∷ [])) text os new) (sym c.push_reserved.ensures.items) typed),
     )
-
-pub returns : goal.returns
-returns g c =
-    let s = g.S.TextStore in
-    let inv = c.loop-key.invariant in
-    record {
-      typed = subst (λ ks. Typed (s.room c.args.store.now) ks (s.text c.args.store.now) (vec_items c.loop-key.outcomes) (s.text c.loop-key.store)) (take_all _ _ c.loop-key-test.false) inv.3;
-      same_room = inv.0;
-    }
