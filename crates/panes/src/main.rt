@@ -2,8 +2,7 @@
 #![tactic(auto)]
 
 use anyhow::anyhow;
-use replays::replay_script;
-use std::io::Read;
+use replays::{exit_code, read_whole, replay_script};
 use std::process::ExitCode;
 use std::{env, fs};
 
@@ -39,24 +38,18 @@ fn read_task(rt: &HostRuntime) -> anyhow::Result<Task> {
     Ok(Task::Replay(Some(word)))
 }
 
-fn read_input(rt: &HostRuntime) -> anyhow::Result<Vec<u8>> {
-    let mut bytes = Vec::new(rt.alloc());
-    rt.stdin().read_to_end(&mut bytes)?;
-    Ok(bytes)
-}
-
-fn read_path(rt: &HostRuntime, path: &str) -> anyhow::Result<Vec<u8>> {
-    fs::read(rt, path).map_err(|e| anyhow!("{path}: {e}"))
+fn read_script(rt: &HostRuntime, script: Option<String>) -> anyhow::Result<Vec<u8>> {
+    match script {
+        Some(path) => fs::read(rt, path.as_str()).map_err(|error| anyhow!("{path}: {error}")),
+        None => Ok(read_whole(rt.alloc(), &mut rt.stdin())?),
+    }
 }
 
 fn run(rt: &HostRuntime) -> anyhow::Result<()> {
     match read_task(rt)? {
         Task::Help => println!(rt; "{USAGE}")?,
         Task::Replay(script) => {
-            let bytes = match script {
-                Some(path) => read_path(rt, path.as_str())?,
-                None => read_input(rt)?,
-            };
+            let bytes = read_script(rt, script)?;
             replay_script(rt, rt.alloc(), bytes.as_slice())?;
         }
     }
@@ -64,11 +57,5 @@ fn run(rt: &HostRuntime) -> anyhow::Result<()> {
 }
 
 fn main(rt: HostRuntime) -> ExitCode {
-    match run(&rt) {
-        Ok(()) => ExitCode::SUCCESS,
-        Err(e) => {
-            let _ = eprintln!(rt; "panes: {e}");
-            ExitCode::FAILURE
-        }
-    }
+    exit_code(&rt, "panes", run(&rt))
 }

@@ -4,6 +4,7 @@
 mod flat;
 mod gap;
 mod limits;
+mod replacement;
 mod text_store;
 
 pub use flat::FlatStore;

@@ -20,7 +20,8 @@ pub trait TextStore {
         ensures { result ≡ slice_index (text self.now) place };
 
     // Puts a list in the place of `take` numbers. Done exactly if place plus take is at most the
-    // length and the new length is at most the capacity; else it answers false, and the text stays.
+    // length and the new length is at most the capacity; else it answers false, and the text stays. The
+    // arguments are three, and the answer a bool, as the rules of text stores have it (docs/RULES.md).
     fn replace(&mut self, place: usize, take: usize, put: &[u32]) -> bool
         ensures replaced { Replaced (room self.old) place take put.now (text self.old) result (text self.new) }
         ensures same_room { room self.new ≡ room self.old };

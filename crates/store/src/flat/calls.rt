@@ -1,11 +1,13 @@
 // The flat store as a text store.
 ghost use Rattle.std.specs.Prelude.{◌≡◌, ◌+◌, ◌-◌, ◌≤◌, false, length, take as first, vec_len};
 ghost use Rattle.store.specs.Stores.{flat_text, flat_room};
-ghost use Rattle.store.specs.Texts.{spliced, Replaced};
+ghost use Rattle.store.specs.Replacements.{made};
+ghost use Rattle.store.specs.Texts.{Replaced};
 ghost use Rattle.std.proofs.Common.{rules};
 
 use crate::flat::FlatStore;
-use crate::limits::{capacity_of, is_possible};
+use crate::limits::capacity_of;
+use crate::replacement::Replacement;
 use crate::text_store::TextStore;
 
 impl TextStore for FlatStore {
@@ -40,22 +42,24 @@ impl TextStore for FlatStore {
         ensures same_array_len { vec_len self.new.cells ≡ vec_len self.old.cells }
     {
         let used = self.used;
-        if !is_possible(self.capacity(), used, place, take, put.len()) {
+        let change = Replacement { place, take, put };
+        if !change.is_possible(self.capacity(), used) {
             return false;
         }
-        splice(self.cells.as_mut_slice(), used, place, take, put);
+        splice(self.cells.as_mut_slice(), used, change);
         self.used = used - take + put.len();
         true
     }
 }
 
 // Makes the replacement: the text behind what is taken moves, then the list is written.
-fn splice(cells: &mut [u32], used: usize, place: usize, take: usize, put: &[u32])
+fn splice(cells: &mut [u32], used: usize, change: Replacement<'_>)
     requires inside { used ≤ length cells.old }
-    requires taken { place + take ≤ used }
-    requires fits { used - take + length put.now ≤ length cells.old }
-    ensures { first (used - take + length put.now) cells.new ≡ spliced place take put.now (first used cells.old) }
+    requires taken { change.place + change.take ≤ used }
+    requires fits { used - change.take + length change.put.now ≤ length cells.old }
+    ensures { first (used - change.entry.take + length change.entry.put.now) cells.new ≡ made change.entry (first used cells.old) }
 {
+    let Replacement { place, take, put } = change;
     let end = place + put.len();
     cells.copy_within(place + take..used, end);
     cells[place..end].copy_from_slice(put);

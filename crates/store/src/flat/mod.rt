@@ -1,4 +1,5 @@
-// The flat store: the text from the start of the array.
+// The flat store: the text from the start of the array. Its length stands beside the array, and is no Vec's own,
+// since the array is the caller's, is given back whole, and no edit may allocate.
 mod array;
 pub mod calls;
 

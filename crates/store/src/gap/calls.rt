@@ -7,7 +7,8 @@ ghost use Rattle.std.proofs.Common.{rules};
 
 use crate::gap::GapStore;
 use crate::gap::moves::splice;
-use crate::limits::{capacity_of, is_possible};
+use crate::limits::capacity_of;
+use crate::replacement::Replacement;
 use crate::text_store::TextStore;
 
 impl TextStore for GapStore {
@@ -45,11 +46,12 @@ impl TextStore for GapStore {
         ensures same_array_len { vec_len self.new.cells ≡ vec_len self.old.cells }
         ensures gap { self.new.gap.start ≡ (if result then place + length put.now else self.old.gap.start) }
     {
-        if !is_possible(self.capacity(), self.len(), place, take, put.len()) {
+        let change = Replacement { place, take, put };
+        if !change.is_possible(self.capacity(), self.len()) {
             return false;
         }
         let gap = self.gap;
-        self.gap = splice(self.cells.as_mut_slice(), gap, place, take, put);
+        self.gap = splice(self.cells.as_mut_slice(), gap, change);
         true
     }
 }

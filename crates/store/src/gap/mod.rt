@@ -1,5 +1,6 @@
 // The gap store: the text at both ends of the array, and the unused cells where the last
-// replacement ended, so that typing on costs no more than what is typed.
+// replacement ended, so that typing on costs no more than what is typed. Where the gap lies stands beside the
+// array, since the array is the caller's, is given back whole, and no edit may allocate.
 mod array;
 pub mod calls;
 mod moves;

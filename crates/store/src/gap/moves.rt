@@ -2,20 +2,22 @@
 // the part from the gap on to those that write there.
 ghost use Rattle.std.specs.Prelude.{◌≡◌, ◌+◌, ◌-◌, ◌≤◌, ◌++◌, length, take as first, drop as from};
 ghost use Rattle.store.specs.Gaps.{around};
-ghost use Rattle.store.specs.Texts.{spliced};
+ghost use Rattle.store.specs.Replacements.{made};
 
 use crate::gap::place::Gap;
+use crate::replacement::Replacement;
 
 // Makes the replacement. The gap then starts right behind the list.
-pub(super) fn splice(cells: &mut [u32], gap: Gap, place: usize, take: usize, put: &[u32]) -> Gap
+pub(super) fn splice(cells: &mut [u32], gap: Gap, change: Replacement<'_>) -> Gap
     requires apart { gap.start ≤ gap.end }
     requires inside { gap.end ≤ length cells.old }
-    requires taken { place + take ≤ gap.start + (length cells.old - gap.end) }
-    requires fits { length put.now ≤ gap.end - gap.start + take }
-    ensures text { around result cells.new ≡ spliced place take put.now (around gap cells.old) }
-    ensures start { result.start ≡ place + length put.now }
-    ensures end { result.end + gap.start ≡ gap.end + (place + take) }
+    requires taken { change.place + change.take ≤ gap.start + (length cells.old - gap.end) }
+    requires fits { length change.put.now ≤ gap.end - gap.start + change.take }
+    ensures text { around result cells.new ≡ made change.entry (around gap cells.old) }
+    ensures start { result.start ≡ change.entry.place + length change.entry.put.now }
+    ensures end { result.end + gap.start ≡ gap.end + (change.entry.place + change.entry.take) }
 {
+    let Replacement { place, take, put } = change;
     let moved = move_gap(cells, gap, place);
     write_front(&mut cells[place..], put);
     Gap {

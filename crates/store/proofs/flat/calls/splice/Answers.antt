@@ -7,10 +7,10 @@ use Rattle.store.proofs.flat.calls.splice.Goals as goal
 pub returns : goal.returns
 returns c =
     let cells = c.args.cells.now in
-    let put = c.args.put.now in
+    let put = c.args.change.put.now in
     let used = c.args.used in
-    let place = c.args.place in
-    let count = c.args.take in
+    let place = c.args.change.place in
+    let count = c.args.change.take in
     let new = used - count + length put in
     let n = used - (place + count) in
     ap (take new) (put_mid-paste place _ _ _ put (length put) c.copy_from_slice.ensures.after (omega arith) refl)

@@ -9,9 +9,9 @@ pub returns : goal.returns
 returns c =
     let moved = c.move_gap-moved.ensures in
     let cells = c.move_gap-moved.new.cells in
-    let put = c.args.put.now in
-    let place = c.args.place in
-    let count = c.args.take in
+    let put = c.args.change.put.now in
+    let place = c.args.change.place in
+    let count = c.args.change.take in
     let end = c.move_gap-moved.result.end in
     let inside : place ≤ length cells = omega (arith, moved.end, c.move_gap-moved.auto.cells) in
     let written = simp take_rest at c.write_front.ensures in

@@ -2,7 +2,7 @@ use Rattle.std.proofs.Common.{◌≡◌, [], vec_items, ap, ◌∙◌, subst}
 use Rattle.keystrokes.specs.Typing.{Typed}
 use Rattle.store.specs.Stores.{flat_text, flat_room}
 use Rattle.store.specs.Texts.{capacity_limit, capacity_of}
-use Rattle.replays.proofs.replay_script.Goals as goal
+use Rattle.replays.proofs.replay.replay_script.Goals as goal
 
 pub returns : goal.returns
 returns g c =
