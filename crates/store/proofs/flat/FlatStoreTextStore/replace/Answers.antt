@@ -3,7 +3,7 @@ use Rattle.std.proofs.lemmas.List.{with_items_is}
 use Rattle.store.specs.Lengths.{length_flat_text}
 use Rattle.store.proofs.Replacing.{told_of_text}
 use Rattle.store.specs.Texts.{spliced}
-use Rattle.store.proofs.flat.calls.FlatStoreTextStore.replace.Goals as goal
+use Rattle.store.proofs.flat.FlatStoreTextStore.replace.Goals as goal
 
 pub returns-then-not-is_possible : goal.returns-then-not-is_possible
 returns-then-not-is_possible c =

@@ -1,16 +1,45 @@
-// The flat store as a text store.
-ghost use Rattle.std.specs.Prelude.{◌≡◌, ◌+◌, ◌-◌, ◌≤◌, false, length, take as first, vec_len};
-ghost use Rattle.store.specs.Stores.{flat_text, flat_room};
+// The flat store: the text from the start of the array. Its length stands beside the array, and is no Vec's own,
+// since the array is the caller's, is given back whole, and no edit may allocate.
+ghost use Rattle.std.specs.Prelude.{◌≡◌, ◌+◌, ◌-◌, ◌≤◌, false, [], length, take as first, vec_len};
 ghost use Rattle.store.specs.Replacements.{made};
-ghost use Rattle.store.specs.Texts.{Replaced};
+ghost use Rattle.store.specs.Texts.{Replaced, capacity_of};
 ghost use Rattle.std.proofs.Common.{rules};
 
-use crate::flat::FlatStore;
 use crate::limits::capacity_of;
 use crate::replacement::Replacement;
 use crate::text_store::TextStore;
 
+#[derive(Drop)]
+pub struct FlatStore {
+    cells: Vec<u32>,
+    used: usize,
+    ghost within: { used ≤ capacity_of (vec_len cells) },
+}
+
+impl FlatStore {
+    ghost use Rattle.store.specs.Stores.{flat_text, flat_room};
+
+    // An empty store over the array, whatever that holds.
+    pub fn new(cells: Vec<u32>) -> FlatStore
+        ensures empty { flat_text result ≡ [] }
+        ensures room { flat_room result ≡ capacity_of (vec_len cells) }
+        ensures array { result.cells ≡ cells }
+    {
+        FlatStore { cells, used: 0 }
+    }
+
+    // The array, with the text at its start.
+    pub fn into_cells(self) -> Vec<u32>
+        ensures { result ≡ self.cells }
+    {
+        let FlatStore { cells, used: _ } = self;
+        cells
+    }
+}
+
 impl TextStore for FlatStore {
+    ghost use Rattle.store.specs.Stores.{flat_text, flat_room};
+
     ghost text = { flat_text };
 
     ghost room = { flat_room };

@@ -5,7 +5,7 @@ use Rattle.store.specs.Lengths.{length_gap_text}
 use Rattle.store.proofs.Replacing.{told_of_text}
 use Rattle.store.specs.Gaps.{around}
 use Rattle.store.specs.Texts.{spliced}
-use Rattle.store.proofs.gap.calls.GapStoreTextStore.replace.Goals as goal
+use Rattle.store.proofs.gap.GapStoreTextStore.replace.Goals as goal
 
 pub returns-then-not-is_possible : goal.returns-then-not-is_possible
 returns-then-not-is_possible c =

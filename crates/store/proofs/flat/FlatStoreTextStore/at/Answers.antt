@@ -1,7 +1,7 @@
 use Rattle.std.proofs.Common.{sym, ◌∙◌, arith}
 use Rattle.std.proofs.lemmas.List.{get_or_read_under, get_or-take}
 use Rattle.store.proofs.Pieces.{none_past}
-use Rattle.store.proofs.flat.calls.FlatStoreTextStore.at.Goals as goal
+use Rattle.store.proofs.flat.FlatStoreTextStore.at.Goals as goal
 
 pub returns-then-place-self : goal.returns-then-place-self
 returns-then-place-self c =

@@ -2,7 +2,7 @@ use Rattle.std.proofs.Common.{◌+◌, ◌-◌, length, take, refl, ap, ◌∙�
 use lib.Seq.{paste}
 use Rattle.std.proofs.lemmas.Slice.{put_mid-paste}
 use Rattle.store.proofs.FlatArray.{flat_spliced}
-use Rattle.store.proofs.flat.calls.splice.Goals as goal
+use Rattle.store.proofs.flat.splice.Goals as goal
 
 pub returns : goal.returns
 returns c =

@@ -3,7 +3,7 @@ use Rattle.std.proofs.lemmas.List.{get_or_read_under, get_or_past}
 use Rattle.store.proofs.GapArray.{at_front, at_back}
 use Rattle.store.specs.Lengths.{length_gap_text}
 use Rattle.store.specs.Stores.{gap_text}
-use Rattle.store.proofs.gap.calls.GapStoreTextStore.at.Goals as goal
+use Rattle.store.proofs.gap.GapStoreTextStore.at.Goals as goal
 
 pub overflow_add-place : goal.overflow_add-place
 overflow_add-place c = omega (arith, length_gap_text c.args.self.now, c.args.self.now.cells.ok)
