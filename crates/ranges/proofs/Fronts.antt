@@ -1,5 +1,5 @@
 -- The rows up to the first that is out of order. Assumes nothing.
-use Rattle.std.proofs.Common.{◌≡◌, ℕ, suc, ◌+◌, ◌<◌, ◌≤◌, true, ◌&&◌, leb, ◌⊎◌, List, [], ◌∷◌, length, get_or, take, drop, sym, refl, ap, ◌∙◌, ⊎_elim, add-one, arith}
+use Rattle.std.proofs.Common.{◌≡◌, ℕ, suc, ◌+◌, ◌<◌, ◌≤◌, true, ◌&&◌, leb, ◌⊎◌, List, [], ◌∷◌, length, get_or, take, drop, sym, refl, ap, ◌∙◌, ⊎_elim, arith}
 use Rattle.std.proofs.lemmas.List.{at_drop_more}
 use Rattle.std.proofs.lemmas.Bool.{and_from, and_left, and_right, and_parts, cond_both, cond-true, cond-false, le-leb, lt-leb, leb-true}
 use Rattle.ranges.proofs.Order.{ascending_parts, ascending_made}
@@ -42,15 +42,6 @@ front_within {V} low (row ∷ rows) =
     cond_both (leb low row.first && leb row.first row.last) (row ∷ front_from (suc row.last) rows) [] P
     (λ _. omega arith)
     (λ _. omega arith)
-
--- a row in order is one of them, and the search goes on from its end
-pub front_more : {V : Type 0} (low : ℕ) (rows : List (Range V)) (i : ℕ) (row : Range V) → i < length rows → row ≡ get_or rows i row → low ≤ row.first → row.first ≤ row.last →
-    length (front_from low (drop i rows)) ≡ suc (length (front_from (row.last + 1) (drop (i + 1) rows)))
-front_more low rows i row inside is begins forward =
-    at_drop_more (λ all. length (front_from low all)) rows i row inside
-    ∙ ap (λ x. length (front_from low (x ∷ drop (i + 1) rows))) (sym is)
-    ∙ ap length (cond-true (leb low row.first && leb row.first row.last) (row ∷ front_from (suc row.last) (drop (i + 1) rows)) [] (and_from (leb low row.first) (leb row.first row.last) (le-leb _ _ begins) (le-leb _ _ forward)))
-    ∙ ap (λ n. suc (length (front_from n (drop (i + 1) rows)))) (sym (add-one row.last))
 
 -- they stop at a row out of order
 pub front_stops : {V : Type 0} (low : ℕ) (rows : List (Range V)) (i : ℕ) (row : Range V) → i < length rows → row ≡ get_or rows i row → (row.first < low) ⊎ (row.last < row.first) → length (front_from low (drop i rows)) ≡ 0
