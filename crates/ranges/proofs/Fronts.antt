@@ -1,7 +1,8 @@
 -- The rows up to the first that is out of order. Assumes nothing.
 use Rattle.std.proofs.Common.{◌≡◌, ℕ, suc, ◌+◌, ◌<◌, ◌≤◌, true, ◌&&◌, leb, ◌⊎◌, List, [], ◌∷◌, length, get_or, take, drop, sym, refl, ap, ◌∙◌, ⊎_elim, arith}
 use Rattle.std.proofs.lemmas.List.{at_drop_more}
-use Rattle.std.proofs.lemmas.Bool.{and_from, and_left, and_right, and_parts, cond_both, cond-true, cond-false, le-leb, lt-leb, leb-true}
+use Rattle.std.proofs.lemmas.Bool.{and_left, and_right, and_parts, cond_both, cond-false, lt-leb, leb-true}
+use Rattle.std.proofs.lemmas.Bool.Decides.{nat_tests}
 use Rattle.ranges.proofs.Order.{ascending_parts, ascending_made}
 use Rattle.ranges.specs.Rows.{ascending, ascending_from, front, front_from}
 use Rattle.ranges.specs.declared.range.Range.{Range}
@@ -21,8 +22,8 @@ pub front_whole : {V : Type 0} (low : ℕ) (rows : List (Range V)) → ascending
 front_whole low [] up = refl
 front_whole low (row ∷ rows) up =
     let p = ascending_parts low row rows up in
-    cond-true (leb low row.first && leb row.first row.last) (row ∷ front_from (suc row.last) rows) [] (and_from (leb low row.first) (leb row.first row.last) (le-leb _ _ p.0) (le-leb _ _ p.1))
-    ∙ ap (λ more. row ∷ more) (front_whole (suc row.last) rows p.2)
+    let behind = front_whole (suc row.last) rows p.2 in
+    grind (arith, nat_tests)
 
 -- they are a start of the rows
 pub front_start : {V : Type 0} (low : ℕ) (rows : List (Range V)) → take (length (front_from low rows)) rows ≡ front_from low rows

@@ -1,6 +1,7 @@
 -- What is looked up in ascending rows. Assumes nothing.
-use Rattle.std.proofs.Common.{◌≡◌, ℕ, zero, suc, ◌<◌, ◌≤◌, Bool, true, false, cond, ltb, leb, List, [], ◌∷◌, length, get_or, Some, None, Option, IsSomeAnd, MatchOption, slice_get, Bor, sym, refl, ap, ◌∙◌, arith}
-use Rattle.std.proofs.lemmas.Bool.{and_from, and_left, and_right, and_parts, cond_both, cond-true, cond-false, le-leb, lt-leb, leb-true, leb-false, ltb-true, ltb-false}
+use Rattle.std.proofs.Common.{◌≡◌, ℕ, zero, suc, ◌<◌, ◌≤◌, Bool, true, false, cond, ltb, leb, List, [], ◌∷◌, length, get_or, Some, None, Option, IsSomeAnd, MatchOption, slice_get, Bor, sym, refl, ap, ◌∙◌, ⊎_elim, arith}
+use Rattle.std.proofs.lemmas.Bool.{cases_Bool, cond_both, cond-false, leb-false, ltb-true, ltb-false}
+use Rattle.std.proofs.lemmas.Bool.Decides.{nat_tests}
 use Rattle.std.proofs.lemmas.Option.{MatchOption-at_none, MatchOption-at_some}
 use Rattle.std.specs.Bool.{then_some}
 use Rattle.std.specs.Option.{option_and_then, option_copied}
@@ -13,7 +14,7 @@ use Rattle.ranges.specs.declared.range.Range.{Range}
 
 -- a row that ends below the code point does not hold it
 pub holds_not_above : {V : Type 0} (row : Range V) (c : ℕ) → row.last < c → holds row c ≡ false
-holds_not_above row c ends = and_right (leb row.first c) (leb c row.last) (lt-leb c row.last ends)
+holds_not_above row c ends = grind (arith, nat_tests)
 
 -- what a row that does not hold the code point leaves to the others
 pub lookup_on : {V : Type 0} (c : ℕ) (row : Range V) (rows : List (Range V)) → holds row c ≡ false → lookup (row ∷ rows) c ≡ lookup rows c
@@ -24,17 +25,16 @@ pub lookup_below : {V : Type 0} (c low : ℕ) (rows : List (Range V)) → ascend
 lookup_below c low [] up below = refl
 lookup_below c low (row ∷ rows) up below =
     let p = ascending_parts low row rows up in
-    lookup_on c row rows (and_left (leb row.first c) (leb c row.last) (lt-leb row.first c (omega arith)))
-    ∙ lookup_below c (suc row.last) rows p.2 (omega arith)
+    let behind = lookup_below c (suc row.last) rows p.2 (omega arith) in
+    grind (arith, nat_tests)
 
 -- of rows whose first ends at the code point or above, only that one can hold it
 pub lookup_first : {V : Type 0} (c : ℕ) (row : Range V) (rows : List (Range V)) → row.first ≤ row.last → ascending_from (suc row.last) rows ≡ true → c ≤ row.last → lookup (row ∷ rows) c ≡ cond (leb row.first c) (Some row.value) None
-lookup_first {V} c row rows forward up ends =
-    let P : Option V → Type 0 = λ o. lookup (row ∷ rows) c ≡ o in
-    cond_both (leb row.first c) (Some row.value) None P
-    (λ t. cond-true (holds row c) (Some row.value) (lookup rows c) (and_from (leb row.first c) (leb c row.last) t (le-leb c row.last ends)))
-    (λ f. let above = leb-false _ _ f in
-    lookup_on c row rows (and_left (leb row.first c) (leb c row.last) f) ∙ lookup_below c (suc row.last) rows up (omega arith))
+lookup_first c row rows forward up ends =
+    ⊎_elim
+    (λ t. grind (arith, nat_tests))
+    (λ f. let none = lookup_below c (suc row.last) rows up (omega (arith, leb-false _ _ f)) in grind (arith, nat_tests))
+    (cases_Bool (leb row.first c))
 
 -- so the row at the place decides
 pub lookup_at : {V : Type 0} (c low : ℕ) (rows : List (Range V)) → ascending_from low rows ≡ true → lookup rows c ≡ option_and_then (λ row. cond (leb row.first c) (Some row.value) None) (slice_get rows (place c rows))
@@ -59,15 +59,13 @@ lookup_listed {V} c (row ∷ rows) v found =
 -- the k-th of ascending rows is the only one that holds its code points
 pub lookup_row : {V : Type 0} (c low : ℕ) (rows : List (Range V)) (k : ℕ) (row : Range V) → ascending_from low rows ≡ true → k < length rows → get_or rows k row ≡ row → holds row c ≡ true → lookup rows c ≡ Some row.value
 lookup_row c low [] k row up inside is within = absurd (omega arith)
-lookup_row c low (first ∷ rows) zero row up inside is within =
-    cond-true (holds first c) (Some first.value) (lookup rows c) (ap (λ r. holds r c) is ∙ within) ∙ ap (λ r. Some r.value) is
+lookup_row c low (first ∷ rows) zero row up inside is within = grind (arith, nat_tests)
 lookup_row c low (first ∷ rows) (suc k) row up inside is within =
     let p = ascending_parts low first rows up in
     let q = ascending_at (suc first.last) rows k row p.2 (omega arith) in
     let begins : suc first.last ≤ row.first = rw is at q.0 in
-    let in_row = and_parts (leb row.first c) (leb c row.last) within in
-    lookup_on c first rows (holds_not_above first c (omega (arith, leb-true _ _ in_row.0)))
-    ∙ lookup_row c (suc first.last) rows k row p.2 (omega arith) is within
+    let behind = lookup_row c (suc first.last) rows k row p.2 (omega arith) is within in
+    grind (arith, nat_tests)
 
 -- what is listed is looked up
 pub listed_lookup : {V : Type 0} (c low : ℕ) (rows : List (Range V)) (v : V) → ascending_from low rows ≡ true → Listed rows c v → lookup rows c ≡ Some v

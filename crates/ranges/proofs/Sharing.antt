@@ -1,6 +1,7 @@
 -- Whether a range has a code point in common with ascending rows. Assumes nothing.
 use Rattle.std.proofs.Common.{◌≡◌, ℕ, suc, ◌<◌, ◌≤◌, Bool, true, false, ◌||◌, ltb, leb, List, [], ◌∷◌, None, Some, Option, MatchOption, slice_get, Bor, sym, refl, ap, ◌∙◌, ⊎_elim, arith}
-use Rattle.std.proofs.lemmas.Bool.{and_from, and_left, and_right, cond_both, or_left, le-leb, lt-leb, leb-false, ltb-true, ltb-false, cases_Bool}
+use Rattle.std.proofs.lemmas.Bool.{cond_both, leb-false, ltb-true, ltb-false, cases_Bool}
+use Rattle.std.proofs.lemmas.Bool.Decides.{nat_tests}
 use Rattle.std.specs.Option.{option_copied, option_map_or}
 use Rattle.std.specs.Slice.{IsItemAt}
 use Rattle.ranges.proofs.Order.{ascending_parts}
@@ -11,7 +12,7 @@ use Rattle.ranges.specs.declared.range.Range.{Range}
 
 -- a row that ends before the range has none in common with it
 pub shares_not_before : {V : Type 0} (row range : Range V) → row.last < range.first → shares row range ≡ false
-shares_not_before row range ends = and_right (leb row.first range.last) (leb range.first row.last) (lt-leb range.first row.last ends)
+shares_not_before row range ends = grind (arith, nat_tests)
 
 -- what a row that has none in common leaves to the others
 pub shares_on : {V : Type 0} (row : Range V) (rows : List (Range V)) (range : Range V) → shares row range ≡ false → shares_any (row ∷ rows) range ≡ shares_any rows range
@@ -22,18 +23,15 @@ pub shares_below : {V : Type 0} (low : ℕ) (rows : List (Range V)) (range : Ran
 shares_below low [] range up below = refl
 shares_below low (row ∷ rows) range up below =
     let p = ascending_parts low row rows up in
-    shares_on row rows range (and_left (leb row.first range.last) (leb range.first row.last) (lt-leb row.first range.last (omega arith)))
-    ∙ shares_below (suc row.last) rows range p.2 (omega arith)
+    let behind = shares_below (suc row.last) rows range p.2 (omega arith) in
+    grind (arith, nat_tests)
 
 -- of rows whose first does not end before the range, that one decides
 pub shares_first : {V : Type 0} (row : Range V) (rows : List (Range V)) (range : Range V) → row.first ≤ row.last → ascending_from (suc row.last) rows ≡ true → range.first ≤ row.last → shares_any (row ∷ rows) range ≡ leb row.first range.last
 shares_first row rows range forward up ends =
     ⊎_elim
-    (λ t. or_left (shares row range) (shares_any rows range) (and_from (leb row.first range.last) (leb range.first row.last) t (le-leb _ _ ends)) ∙ sym t)
-    (λ f. let above = leb-false _ _ f in
-    shares_on row rows range (and_left (leb row.first range.last) (leb range.first row.last) f)
-    ∙ shares_below (suc row.last) rows range up (omega arith)
-    ∙ sym f)
+    (λ t. grind (arith, nat_tests))
+    (λ f. let below = shares_below (suc row.last) rows range up (omega (arith, leb-false _ _ f)) in grind (arith, nat_tests))
     (cases_Bool (leb row.first range.last))
 
 -- so the row at the place decides
