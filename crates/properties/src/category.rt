@@ -1,15 +1,14 @@
 // The general categories, as DerivedGeneralCategory.txt lists them.
-ghost use Rattle.std.specs.Prelude.{◌≡◌, false, Some};
-ghost use Rattle.properties.specs.Names.{called, same_name};
+ghost use Rattle.properties.specs.Names.{same_name};
 ghost use Rattle.properties.specs.Categories.{category_name, categories};
 ghost use Rattle.properties.specs.declared.category.Category.TheVariants.{Cn as unassigned};
-ghost use Rattle.properties.specs.Naming.{all_same, listed_called, at_some};
+ghost use Rattle.properties.specs.Naming.{all_same};
 ghost use Rattle.properties.specs.CategoryPropertyLemmas.{by_name};
 
-use crate::named::{Named, find};
-use crate::property::Property;
+use crate::listed::Listed;
+use crate::named::Named;
 
-#[derive(Clone, Copy)]
+#[derive(Clone, Copy, PartialEq, Eq, Debug)]
 pub enum Category {
     Lu,
     Ll,
@@ -116,28 +115,20 @@ impl Named for Category {
     }
 }
 
-impl Property for Category {
-    ghost listed = { same_name category_name };
+impl Listed for Category {
+    ghost listed_name = { same_name category_name };
 
-    ghost meant = { called category_name categories };
+    ghost values = { categories };
 
-    ghost shared = { false };
+    ghost UNLISTED = { unassigned };
 
-    ghost unlisted = { unassigned };
+    const UNLISTED: Category = Category::Cn;
 
-    ghost told = { λ name v e. listed_called category_name (same_name category_name) categories (all_same category_name categories) name v e };
+    ghost spelled = { all_same category_name categories };
 
-    ghost found = { λ name v e. at_some (λ n. called category_name categories n ≡ Some v) (same_name category_name v) name (by_name v) e };
+    ghost by_name = { by_name };
 
-    fn read(name: &[u8]) -> Option<Category> {
-        find(&CATEGORIES, name)
-    }
-
-    fn shares_its_file() -> bool {
-        false
-    }
-
-    fn default_value() -> Category {
-        Category::Cn
+    fn values() -> &'static [Category] {
+        &CATEGORIES
     }
 }

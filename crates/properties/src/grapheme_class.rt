@@ -1,15 +1,13 @@
 // The grapheme cluster break classes of UAX #29, as GraphemeBreakProperty.txt lists them.
-ghost use Rattle.std.specs.Prelude.{◌≡◌, false, Some, refl};
-ghost use Rattle.properties.specs.Names.{called};
+ghost use Rattle.std.specs.Prelude.{refl};
 ghost use Rattle.properties.specs.GraphemeClasses.{grapheme_name, grapheme_classes, listed_name};
 ghost use Rattle.properties.specs.declared.grapheme_class.GraphemeClass.TheVariants.{Other as other};
-ghost use Rattle.properties.specs.Naming.{listed_called, at_some};
 ghost use Rattle.properties.specs.GraphemeClassPropertyLemmas.{by_name};
 
-use crate::named::{Named, find};
-use crate::property::Property;
+use crate::listed::Listed;
+use crate::named::Named;
 
-#[derive(Clone, Copy)]
+#[derive(Clone, Copy, PartialEq, Eq, Debug)]
 pub enum GraphemeClass {
     Cr,
     Lf,
@@ -67,28 +65,20 @@ impl Named for GraphemeClass {
     }
 }
 
-impl Property for GraphemeClass {
-    ghost listed = { listed_name };
+impl Listed for GraphemeClass {
+    ghost listed_name = { listed_name };
 
-    ghost meant = { called grapheme_name grapheme_classes };
+    ghost values = { grapheme_classes };
 
-    ghost shared = { false };
+    ghost UNLISTED = { other };
 
-    ghost unlisted = { other };
+    const UNLISTED: GraphemeClass = GraphemeClass::Other;
 
-    ghost told = { λ name v e. listed_called grapheme_name listed_name grapheme_classes (refl, (refl, (refl, (refl, (refl, (refl, (refl, (refl, (refl, (refl, (refl, (refl, (refl, tt))))))))))))) name v e };
+    ghost spelled = { (refl, (refl, (refl, (refl, (refl, (refl, (refl, (refl, (refl, (refl, (refl, (refl, (refl, tt))))))))))))) };
 
-    ghost found = { λ name v e. at_some (λ n. called grapheme_name grapheme_classes n ≡ Some v) (listed_name v) name (by_name v) e };
+    ghost by_name = { by_name };
 
-    fn read(name: &[u8]) -> Option<GraphemeClass> {
-        find(&GRAPHEME_CLASSES, name)
-    }
-
-    fn shares_its_file() -> bool {
-        false
-    }
-
-    fn default_value() -> GraphemeClass {
-        GraphemeClass::Other
+    fn values() -> &'static [GraphemeClass] {
+        &GRAPHEME_CLASSES
     }
 }

@@ -4,6 +4,7 @@
 mod category;
 mod grapheme_class;
 mod line_class;
+mod listed;
 mod lookups;
 mod named;
 mod pictograph;

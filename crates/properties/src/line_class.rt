@@ -1,15 +1,14 @@
 // The line break classes of UAX #14, as LineBreak.txt lists them.
-ghost use Rattle.std.specs.Prelude.{◌≡◌, false, Some};
-ghost use Rattle.properties.specs.Names.{called, same_name};
+ghost use Rattle.properties.specs.Names.{same_name};
 ghost use Rattle.properties.specs.LineClasses.{line_name, line_classes};
 ghost use Rattle.properties.specs.declared.line_class.LineClass.TheVariants.{Xx as unknown};
-ghost use Rattle.properties.specs.Naming.{all_same, listed_called, at_some};
+ghost use Rattle.properties.specs.Naming.{all_same};
 ghost use Rattle.properties.specs.LineClassPropertyLemmas.{by_name};
 
-use crate::named::{Named, find};
-use crate::property::Property;
+use crate::listed::Listed;
+use crate::named::Named;
 
-#[derive(Clone, Copy)]
+#[derive(Clone, Copy, PartialEq, Eq, Debug)]
 pub enum LineClass {
     Ai,
     Bk,
@@ -155,28 +154,20 @@ impl Named for LineClass {
     }
 }
 
-impl Property for LineClass {
-    ghost listed = { same_name line_name };
+impl Listed for LineClass {
+    ghost listed_name = { same_name line_name };
 
-    ghost meant = { called line_name line_classes };
+    ghost values = { line_classes };
 
-    ghost shared = { false };
+    ghost UNLISTED = { unknown };
 
-    ghost unlisted = { unknown };
+    const UNLISTED: LineClass = LineClass::Xx;
 
-    ghost told = { λ name v e. listed_called line_name (same_name line_name) line_classes (all_same line_name line_classes) name v e };
+    ghost spelled = { all_same line_name line_classes };
 
-    ghost found = { λ name v e. at_some (λ n. called line_name line_classes n ≡ Some v) (same_name line_name v) name (by_name v) e };
+    ghost by_name = { by_name };
 
-    fn read(name: &[u8]) -> Option<LineClass> {
-        find(&LINE_CLASSES, name)
-    }
-
-    fn shares_its_file() -> bool {
-        false
-    }
-
-    fn default_value() -> LineClass {
-        LineClass::Xx
+    fn values() -> &'static [LineClass] {
+        &LINE_CLASSES
     }
 }

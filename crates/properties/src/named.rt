@@ -13,10 +13,8 @@ pub trait Named: Copy {
 pub(crate) fn find<V: Named>(values: &[V], name: &[u8]) -> Option<V>
     ensures { result ≡ called V.Named.spelling values.now name.now }
 {
-    for value in values {
-        if value.name().as_bytes() == name {
-            return Some(*value);
-        }
-    }
-    None
+    values
+        .iter()
+        .copied()
+        .find(|value| value.name().as_bytes() == name)
 }

@@ -20,11 +20,7 @@ impl Property for bool {
     ghost found = { λ name v e. at_some (λ n. pictograph_read n ≡ Some v) (pictograph_name v) name (by_name v) e };
 
     fn read(name: &[u8]) -> Option<bool> {
-        if name == b"Extended_Pictographic".as_slice() {
-            Some(true)
-        } else {
-            None
-        }
+        (b"Extended_Pictographic".as_slice() == name).then_some(true)
     }
 
     fn shares_its_file() -> bool {

@@ -1,15 +1,14 @@
 // The East Asian widths, as EastAsianWidth.txt lists them.
-ghost use Rattle.std.specs.Prelude.{◌≡◌, false, Some};
-ghost use Rattle.properties.specs.Names.{called, same_name};
+ghost use Rattle.properties.specs.Names.{same_name};
 ghost use Rattle.properties.specs.Widths.{width_name, widths};
 ghost use Rattle.properties.specs.declared.width.Width.TheVariants.{N as neutral};
-ghost use Rattle.properties.specs.Naming.{all_same, listed_called, at_some};
+ghost use Rattle.properties.specs.Naming.{all_same};
 ghost use Rattle.properties.specs.WidthPropertyLemmas.{by_name};
 
-use crate::named::{Named, find};
-use crate::property::Property;
+use crate::listed::Listed;
+use crate::named::Named;
 
-#[derive(Clone, Copy)]
+#[derive(Clone, Copy, PartialEq, Eq, Debug)]
 pub enum Width {
     F,
     H,
@@ -37,28 +36,20 @@ impl Named for Width {
     }
 }
 
-impl Property for Width {
-    ghost listed = { same_name width_name };
+impl Listed for Width {
+    ghost listed_name = { same_name width_name };
 
-    ghost meant = { called width_name widths };
+    ghost values = { widths };
 
-    ghost shared = { false };
+    ghost UNLISTED = { neutral };
 
-    ghost unlisted = { neutral };
+    const UNLISTED: Width = Width::N;
 
-    ghost told = { λ name v e. listed_called width_name (same_name width_name) widths (all_same width_name widths) name v e };
+    ghost spelled = { all_same width_name widths };
 
-    ghost found = { λ name v e. at_some (λ n. called width_name widths n ≡ Some v) (same_name width_name v) name (by_name v) e };
+    ghost by_name = { by_name };
 
-    fn read(name: &[u8]) -> Option<Width> {
-        find(&WIDTHS, name)
-    }
-
-    fn shares_its_file() -> bool {
-        false
-    }
-
-    fn default_value() -> Width {
-        Width::N
+    fn values() -> &'static [Width] {
+        &WIDTHS
     }
 }

@@ -1,7 +1,8 @@
 -- The rows up to the first that is out of order. Assumes nothing.
-use Rattle.std.proofs.Common.{◌≡◌, ℕ, suc, ◌+◌, ◌<◌, ◌≤◌, true, ◌&&◌, leb, ◌⊎◌, List, [], ◌∷◌, length, get_or, take, drop, sym, refl, ap, ◌∙◌, ⊎_elim, add-one, arith}
+use Rattle.std.proofs.Common.{◌≡◌, ℕ, suc, ◌+◌, ◌<◌, ◌≤◌, true, ◌&&◌, leb, ◌⊎◌, List, [], ◌∷◌, length, get_or, take, drop, sym, refl, ap, ◌∙◌, ⊎_elim, arith}
 use Rattle.std.proofs.lemmas.List.{at_drop_more}
-use Rattle.std.proofs.lemmas.Bool.{and_from, and_left, and_right, and_parts, cond_both, cond-true, cond-false, le-leb, lt-leb, leb-true}
+use Rattle.std.proofs.lemmas.Bool.{and_left, and_right, and_parts, cond_both, cond-false, lt-leb, leb-true}
+use Rattle.std.proofs.lemmas.Bool.Decides.{nat_tests}
 use Rattle.ranges.proofs.Order.{ascending_parts, ascending_made}
 use Rattle.ranges.specs.Rows.{ascending, ascending_from, front, front_from}
 use Rattle.ranges.specs.declared.range.Range.{Range}
@@ -21,8 +22,8 @@ pub front_whole : {V : Type 0} (low : ℕ) (rows : List (Range V)) → ascending
 front_whole low [] up = refl
 front_whole low (row ∷ rows) up =
     let p = ascending_parts low row rows up in
-    cond-true (leb low row.first && leb row.first row.last) (row ∷ front_from (suc row.last) rows) [] (and_from (leb low row.first) (leb row.first row.last) (le-leb _ _ p.0) (le-leb _ _ p.1))
-    ∙ ap (λ more. row ∷ more) (front_whole (suc row.last) rows p.2)
+    let behind = front_whole (suc row.last) rows p.2 in
+    grind (arith, nat_tests)
 
 -- they are a start of the rows
 pub front_start : {V : Type 0} (low : ℕ) (rows : List (Range V)) → take (length (front_from low rows)) rows ≡ front_from low rows
@@ -42,15 +43,6 @@ front_within {V} low (row ∷ rows) =
     cond_both (leb low row.first && leb row.first row.last) (row ∷ front_from (suc row.last) rows) [] P
     (λ _. omega arith)
     (λ _. omega arith)
-
--- a row in order is one of them, and the search goes on from its end
-pub front_more : {V : Type 0} (low : ℕ) (rows : List (Range V)) (i : ℕ) (row : Range V) → i < length rows → row ≡ get_or rows i row → low ≤ row.first → row.first ≤ row.last →
-    length (front_from low (drop i rows)) ≡ suc (length (front_from (row.last + 1) (drop (i + 1) rows)))
-front_more low rows i row inside is begins forward =
-    at_drop_more (λ all. length (front_from low all)) rows i row inside
-    ∙ ap (λ x. length (front_from low (x ∷ drop (i + 1) rows))) (sym is)
-    ∙ ap length (cond-true (leb low row.first && leb row.first row.last) (row ∷ front_from (suc row.last) (drop (i + 1) rows)) [] (and_from (leb low row.first) (leb row.first row.last) (le-leb _ _ begins) (le-leb _ _ forward)))
-    ∙ ap (λ n. suc (length (front_from n (drop (i + 1) rows)))) (sym (add-one row.last))
 
 -- they stop at a row out of order
 pub front_stops : {V : Type 0} (low : ℕ) (rows : List (Range V)) (i : ℕ) (row : Range V) → i < length rows → row ≡ get_or rows i row → (row.first < low) ⊎ (row.last < row.first) → length (front_from low (drop i rows)) ≡ 0

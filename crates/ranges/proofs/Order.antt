@@ -1,21 +1,16 @@
 -- What it means that rows ascend. Assumes nothing.
-use Rattle.std.proofs.Common.{◌≡◌, ℕ, zero, suc, ◌<◌, ◌≤◌, true, ◌&&◌, leb, List, [], ◌∷◌, length, get_or, refl, arith}
-use Rattle.std.proofs.lemmas.Bool.{and_from, and_parts, le-leb, leb-true}
+use Rattle.std.proofs.Common.{◌≡◌, ℕ, zero, suc, ◌<◌, ◌≤◌, true, List, [], ◌∷◌, length, get_or, refl, arith}
+use Rattle.std.proofs.lemmas.Bool.Decides.{nat_tests}
 use Rattle.ranges.specs.Rows.{ascending_from}
 use Rattle.ranges.specs.declared.range.Range.{Range}
 
 -- of ascending rows the first begins at the limit or above, is not backward, and the others ascend from its end
 pub ascending_parts : {V : Type 0} (low : ℕ) (row : Range V) (rows : List (Range V)) → ascending_from low (row ∷ rows) ≡ true → (low ≤ row.first) × (row.first ≤ row.last) × (ascending_from (suc row.last) rows ≡ true)
-ascending_parts low row rows up =
-    let begin = and_parts (leb low row.first) (leb row.first row.last && ascending_from (suc row.last) rows) up in
-    let end = and_parts (leb row.first row.last) (ascending_from (suc row.last) rows) begin.1 in
-    (leb-true _ _ begin.0, leb-true _ _ end.0, end.1)
+ascending_parts low row rows up = grind (arith, nat_tests)
 
 -- and rows of which that is known ascend
 pub ascending_made : {V : Type 0} (low : ℕ) (row : Range V) (rows : List (Range V)) → low ≤ row.first → row.first ≤ row.last → ascending_from (suc row.last) rows ≡ true → ascending_from low (row ∷ rows) ≡ true
-ascending_made low row rows begin end up =
-    and_from (leb low row.first) (leb row.first row.last && ascending_from (suc row.last) rows) (le-leb _ _ begin)
-    (and_from (leb row.first row.last) (ascending_from (suc row.last) rows) (le-leb _ _ end) up)
+ascending_made low row rows begin end up = grind (arith, nat_tests)
 
 -- rows that ascend from a limit ascend from a lower one
 pub ascending_lower : {V : Type 0} (high low : ℕ) (rows : List (Range V)) → low ≤ high → ascending_from high rows ≡ true → ascending_from low rows ≡ true

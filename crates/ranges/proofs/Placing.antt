@@ -1,11 +1,11 @@
 -- A range put in its order among rows. Assumes nothing.
-use Rattle.std.proofs.Common.{◌≡◌, ℕ, suc, ◌<◌, ◌≤◌, true, false, cond, ltb, List, [], ◌∷◌, IfOk, Some, Ok, Err, Option, Result, sym, refl, ap, ◌∙◌, arith}
+use Rattle.std.proofs.Common.{◌≡◌, ℕ, suc, ◌<◌, ◌≤◌, true, false, cond, ltb, List, [], ◌∷◌, Some, Option, sym, refl, ap, ◌∙◌, arith}
 use Rattle.std.proofs.lemmas.Bool.{cond_both, ltb-true, ltb-false, or_parts}
 use Rattle.std.proofs.lemmas.Bool.Decides.{nat_tests}
 use Rattle.std.specs.List.{insert}
 use Rattle.ranges.proofs.Order.{ascending_parts, ascending_made}
 use Rattle.ranges.specs.Places.{place}
-use Rattle.ranges.specs.Rows.{ascending_from, holds, lookup, placed, shares, shares_any}
+use Rattle.ranges.specs.Rows.{Added, ascending_from, holds, lookup, placed, shares, shares_any}
 use Rattle.ranges.specs.declared.range.Range.{Range}
 
 -- a range is put at the place of its first code point
@@ -48,8 +48,6 @@ placed_values {V} range (row ∷ rows) c =
     (λ t. ap (cond (holds row c) (Some row.value)) (placed_values range rows c) ∙ asked_first row range c (lookup rows c) (ltb-true _ _ t))
     (λ _. refl)
 
--- so it is where an answer that keeps the range has put it there
-pub values_told : {V T E : Type 0} (r : Result T E) (range : Range V) (rows after : List (Range V)) → IfOk r (λ _. after ≡ placed range rows) →
-    IfOk r (λ _. (c : ℕ) → lookup after c ≡ cond (holds range c) (Some range.value) (lookup rows c))
-values_told (Ok _) range rows after is = λ c. ap (λ all. lookup all c) is ∙ placed_values range rows c
-values_told (Err _) range rows after none = none
+-- so they do in rows that are these with the range
+pub values_from : {V : Type 0} (range : Range V) (rows after : List (Range V)) → after ≡ placed range rows → Added range rows after
+values_from range rows after is c = ap (λ all. lookup all c) is ∙ placed_values range rows c

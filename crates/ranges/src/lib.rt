@@ -8,7 +8,6 @@
 mod filling;
 mod range;
 mod refusal;
-mod search;
 mod slots;
 mod table;
 

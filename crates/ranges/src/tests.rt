@@ -1,32 +1,8 @@
 // Tables on examples: every refusal, both ends of a range, and records out of order.
 use crate::{Filling, Range, Refusal, Table};
 
-const NONE: u8 = 255;
-
 fn range(first: u32, last: u32, value: u8) -> Range<u8> {
     Range { first, last, value }
-}
-
-// Of each range in turn whether it was kept, or else the refusal, as one letter.
-fn answers(filling: &mut Filling<'_, u8>, ranges: &[Range<u8>]) -> [u8; 8] {
-    let mut all = [b' '; 8];
-    for i in 0..ranges.len().min(8) {
-        all[i] = match filling.insert(ranges[i]) {
-            Ok(()) => b'k',
-            Err(Refusal::Backward) => b'b',
-            Err(Refusal::Shared) => b's',
-            Err(Refusal::Full) => b'f',
-        };
-    }
-    all
-}
-
-fn values(table: &Table<'_, u8>, points: [u32; 8]) -> [u8; 8] {
-    let mut all = [NONE; 8];
-    for i in 0..8 {
-        all[i] = table.lookup(points[i]).unwrap_or(NONE);
-    }
-    all
 }
 
 #[test]
@@ -34,12 +10,21 @@ fn keeps_ranges_in_any_order(rt: HostRuntime) {
     let mut records = [range(9, 0, 9); 3];
     let mut filling = Filling::new(&mut records);
     let ranges = [range(30, 39, 3), range(1, 9, 1), range(29, 29, 2)];
-    assert_eq!(rt; &answers(&mut filling, &ranges), b"kkk     ");
+    assert_eq!(rt; ranges.map(|range| filling.insert(range)), [Ok(()); 3]);
     let table = filling.table();
     assert_eq!(rt; table.covered(), 20);
     assert_eq!(rt;
-        values(&table, [0, 1, 9, 10, 29, 30, 39, 40]),
-        [NONE, 1, 1, NONE, 2, 3, 3, NONE]
+        [0, 1, 9, 10, 29, 30, 39, 40].map(|c| table.lookup(c)),
+        [
+            None,
+            Some(1),
+            Some(1),
+            None,
+            Some(2),
+            Some(3),
+            Some(3),
+            None
+        ]
     );
 }
 
@@ -56,7 +41,18 @@ fn refuses_in_order(rt: HostRuntime) {
         range(0, u32::MAX, 1),
         range(30, u32::MAX, 3),
     ];
-    assert_eq!(rt; &answers(&mut filling, &ranges), b"kbssksf ");
+    assert_eq!(rt;
+        ranges.map(|range| filling.insert(range)),
+        [
+            Ok(()),
+            Err(Refusal::Backward),
+            Err(Refusal::Shared),
+            Err(Refusal::Shared),
+            Ok(()),
+            Err(Refusal::Shared),
+            Err(Refusal::Full),
+        ]
+    );
     assert_eq!(rt; [filling.len(), filling.capacity()], [2, 2]);
 }
 
@@ -68,7 +64,16 @@ fn takes_the_records_in_order(rt: HostRuntime) {
     assert_eq!(rt; copy.covered(), u32::MAX as u64);
     assert_eq!(rt; table.len(), 2);
     assert_eq!(rt;
-        values(&table, [0, 1, 2, 3, 4, 5, 6, u32::MAX]),
-        [NONE, 1, 1, 3, 3, 3, 3, 3]
+        [0, 1, 2, 3, 4, 5, 6, u32::MAX].map(|c| table.lookup(c)),
+        [
+            None,
+            Some(1),
+            Some(1),
+            Some(3),
+            Some(3),
+            Some(3),
+            Some(3),
+            Some(3)
+        ]
     );
 }

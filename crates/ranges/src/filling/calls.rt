@@ -50,6 +50,7 @@ impl<'a, V> Filling<'a, V> {
 
 impl<'a, V: Copy> Filling<'a, V> {
     // Keeps one more range, in its order, or says why it can't.
+    #[tactic(auto, using(crate::proofs::Placing::placed_from, crate::proofs::Placing::values_from))]
     pub fn insert(&mut self, range: Range<V>) -> Result<(), Refusal>
         ensures told { Told (room self.old) (kept self.old) range result }
         ensures rows { OnOk result (kept self.new ≡ placed range (kept self.old)) }
@@ -57,6 +58,11 @@ impl<'a, V: Copy> Filling<'a, V> {
         ensures same_room { room self.new ≡ room self.old }
         ensures values { OnOk result (Added range (kept self.old) (kept self.new)) }
     {
-        self.slots.insert(range)
+        let kept = Table {
+            records: self.slots.kept(),
+        };
+        let place = kept.place_for(self.capacity(), range)?;
+        self.slots.put(place, range);
+        Ok(())
     }
 }

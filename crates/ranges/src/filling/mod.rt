@@ -1,7 +1,7 @@
 // A table that is being filled, in records that are lent for writing.
 mod calls;
 
-ghost use Rattle.std.specs.Prelude.{◌≡◌, ◌≤◌, true, length, take};
+ghost use Rattle.std.specs.Prelude.{◌≡◌, true, take};
 ghost use Rattle.ranges.specs.Rows.{ascending};
 
 use crate::slots::Slots;
@@ -9,6 +9,5 @@ use crate::slots::Slots;
 #[derive(Drop)]
 pub struct Filling<'a, V> {
     slots: Slots<'a, V>,
-    ghost within: { slots.used ≤ length slots.records.now },
     ghost ascends: { ascending (take slots.used slots.records.now) ≡ true },
 }

@@ -4,7 +4,6 @@ ghost use Rattle.ranges.specs.Rows.{Listed, ascending, covered, front, lookup};
 ghost use Rattle.ranges.specs.Tables.{rows};
 
 use crate::range::Range;
-use crate::search::place_of;
 use crate::table::Table;
 
 impl<'a, V> Table<'a, V> {
@@ -14,7 +13,7 @@ impl<'a, V> Table<'a, V> {
         ensures whole { ascending records.now ≡ true → rows result ≡ records.now }
     {
         Table {
-            records: &records[0..ordered(records)],
+            records: &records[..ordered(records)],
         }
     }
 
@@ -45,13 +44,10 @@ impl<'a, V: Copy> Table<'a, V> {
         ensures found { (v : V) → result ≡ Some v → Listed (rows self.now) c v }
         ensures listed { (v : V) → Listed (rows self.now) c v → result ≡ Some v }
     {
-        let records = self.records;
-        let place = place_of(records, c);
-        if place < records.len() && records[place].first <= c {
-            Some(records[place].value)
-        } else {
-            None
-        }
+        self.records
+            .get(self.place_of(c))
+            .filter(|row| row.first <= c)
+            .map(|row| row.value)
     }
 }
 

@@ -1,5 +1,6 @@
 // A table of ranges, in records that are lent for reading.
 mod calls;
+mod places;
 
 ghost use Rattle.std.specs.Prelude.{◌≡◌, true, ⊤};
 ghost use Rattle.ranges.specs.Rows.{ascending};
@@ -13,6 +14,7 @@ pub struct Table<'a, V> {
     ghost ascends: { ascending records.now ≡ true },
 }
 
+// By hand: `Clone` cannot be derived for a struct with a ghost field.
 impl<'a, V> Clone for Table<'a, V> {
     ghost is_clone = { λ table result. result ≡ table };
 

@@ -1,6 +1,6 @@
 use Rattle.std.proofs.Common.{◌≡◌, ◌<◌, ◌⊎◌, length, drop, inl, inr, arith}
 use Rattle.std.proofs.lemmas.List.{at_drop_all}
-use Rattle.ranges.proofs.Fronts.{front_counted, front_more, front_stops}
+use Rattle.ranges.proofs.Fronts.{front_counted, front_stops}
 use Rattle.ranges.specs.Rows.{front_from}
 use Rattle.ranges.proofs.table.calls.ordered.Goals as goal
 use Rattle.ranges.proofs.table.calls.ordered.Goals.{then-range-low-via-then-range-low, then-range-low-via-else-range-low+then-range}
@@ -16,10 +16,6 @@ returns-then-range-low g c =
     let none = front_stops c.loop-i.low rows c.loop-i.i row c.loop-i-test.true c.index-records-i.is stops in
     let counted = front_counted rows c.loop-i.i (omega (arith, c.loop-i.invariant)) in
     record { within = counted.0; front = counted.1; ascends = counted.2 }
-
-pub loop-i-preserved : goal.loop-i-preserved
-loop-i-preserved g c =
-    omega (arith, c.loop-i.invariant, front_more c.loop-i.low c.args.records.now c.loop-i.i c.index-records-i.result c.loop-i-test.true c.index-records-i.is c.if-range-low.false c.if-range.false)
 
 pub returns : goal.returns
 returns g c =
