@@ -1,15 +1,9 @@
 -- What each move in a gapped array does to the text around the gap. Assumes nothing.
-use Rattle.std.proofs.Common.{◌≡◌, ℕ, ◌+◌, ◌-◌, ◌<◌, ◌≤◌, List, ◌++◌, length, get_or, take, drop, sym, refl, ap, ◌∙◌, append_assoc, arith, length-drop, take-append-drop, length-take, take-add}
-use lib.Seq.{paste, take-append_seam}
-use Rattle.std.proofs.lemmas.List.{length-take-le, take_at, drop-drop, get_or-take, get_or-drop, get_or_append_left, get_or-append_right}
-use Rattle.store.proofs.Pieces.{take_past, drop_past, drop_at_paste}
+use Rattle.std.proofs.Common.{◌≡◌, ℕ, ◌+◌, ◌-◌, ◌≤◌, List, ◌++◌, length, take, drop, sym, refl, ap, ◌∙◌, append_assoc, arith, length-drop, take-append-drop, take-add}
+use lib.Seq.{take-append_seam}
+use Rattle.std.proofs.lemmas.List.{length-take-le, take_at, drop-drop}
+use Rattle.store.proofs.Pieces.{take_past, drop_past}
 use Rattle.store.specs.Texts.{spliced}
-
--- the first numbers are copied to right before those behind the gap
-pub carried_back : (cells : List ℕ) (count size : ℕ) → count + size ≤ length cells → drop size (paste cells size cells count) ≡ take count cells ++ drop (count + size) cells
-carried_back cells count size inside =
-    let swap : size + count ≡ count + size = omega arith in
-    drop_at_paste cells size cells count (omega arith) ∙ ap (λ n. take count cells ++ drop n cells) swap
 
 -- the first numbers behind the gap are copied to its front
 pub carried_front : (cells : List ℕ) (count size : ℕ) → count + size ≤ length cells → take count (take count (drop size cells) ++ drop count cells) ++ drop (count + size) (take count (drop size cells) ++ drop count cells) ≡ drop size cells
@@ -81,15 +75,3 @@ gap_spliced cells put place count end inside fits =
     (λ i. front i ++ back i)
     ∙ append_assoc before put (drop (end + count) cells)
     ∙ sym (λ i. kept i ++ (put ++ left i))
-
--- a number before the gap, and one behind it
-pub at_front : (cells : List ℕ) (start end place : ℕ) → place < start → start ≤ length cells → get_or (take start cells ++ drop end cells) place 0 ≡ get_or cells place 0
-at_front cells start end place before inside =
-    get_or_append_left (take start cells) (drop end cells) 0 place (simp length-take (omega arith)) ∙ get_or-take start cells place 0 before
-
-pub at_back : (cells : List ℕ) (start end place : ℕ) → start ≤ place → start ≤ length cells → get_or (take start cells ++ drop end cells) place 0 ≡ get_or cells (place - start + end) 0
-at_back cells start end place behind inside =
-    let swap : end + (place - start) ≡ place - start + end = omega arith in
-    get_or-append_right (take start cells) (drop end cells) start place 0 (length-take-le start cells inside) behind
-    ∙ get_or-drop end cells (place - start) 0
-    ∙ ap (λ n. get_or cells n 0) swap

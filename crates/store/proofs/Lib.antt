@@ -1,4 +1,3 @@
 pub mod Pieces
-pub mod Replacing
 pub mod FlatArray
 pub mod GapArray

@@ -1,8 +1,8 @@
 -- Parts of lists that are put together or pasted over. Assumes nothing.
-use Rattle.std.proofs.Common.{◌≡◌, ℕ, ◌+◌, ◌-◌, ◌≤◌, List, ◌++◌, length, get_or, take, drop, ap, ◌∙◌, subst, append_assoc, append-nil, arith, length-drop, length-take}
+use Rattle.std.proofs.Common.{◌≡◌, ℕ, ◌+◌, ◌-◌, ◌≤◌, List, ◌++◌, length, take, drop, ap, ◌∙◌, subst, append_assoc, append-nil, arith, length-drop, length-take}
 use lib.Seq.{paste, take-append-add, drop-append-add}
 use borrow.Rule.Slice.PartMut.{put_mid}
-use Rattle.std.proofs.lemmas.List.{length-take-le, drop_at, drop_all, take-take, take-append-le, get_or_past}
+use Rattle.std.proofs.lemmas.List.{length-take-le, drop_at, drop_all, take-take, take-append-le}
 
 -- n is the length of the first list
 pub take_past : (xs ys : List ℕ) (n m : ℕ) → length xs ≡ n → take (n + m) (xs ++ ys) ≡ xs ++ take m ys
@@ -10,10 +10,6 @@ take_past xs ys n m long = subst (λ k. take (k + m) (xs ++ ys) ≡ xs ++ take m
 
 pub drop_past : (xs ys : List ℕ) (n m : ℕ) → length xs ≡ n → drop (n + m) (xs ++ ys) ≡ drop m ys
 drop_past xs ys n m long = subst (λ k. drop (k + m) (xs ++ ys) ≡ drop m ys) long (drop-append-add xs ys m)
-
--- a text that is cut at `used` has 0 from there on
-pub none_past : (xs : List ℕ) (used place : ℕ) → used ≤ place → get_or (take used xs) place 0 ≡ 0
-none_past xs used place past = get_or_past (take used xs) place 0 (simp length-take (omega arith))
 
 -- pasting leaves what is before it
 pub take_before_paste : (k : ℕ) (xs : List ℕ) (at : ℕ) (ys : List ℕ) (n : ℕ) → k ≤ at → at ≤ length xs → take k (paste xs at ys n) ≡ take k xs
