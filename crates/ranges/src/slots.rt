@@ -4,7 +4,8 @@ ghost use Rattle.std.specs.List.{insert};
 
 use crate::range::Range;
 
-// The first `used` records hold ranges; the others are free.
+// The first `used` records hold ranges; the others are free. The count stands beside the slice, since the records
+// are the caller's and a table allocates nothing.
 #[derive(Drop)]
 pub(crate) struct Slots<'a, V> {
     pub(crate) records: &'a mut [Range<V>],

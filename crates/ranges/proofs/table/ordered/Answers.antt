@@ -2,8 +2,8 @@ use Rattle.std.proofs.Common.{◌≡◌, ◌<◌, ◌⊎◌, length, drop, inl, 
 use Rattle.std.proofs.lemmas.List.{at_drop_all}
 use Rattle.ranges.proofs.Fronts.{front_counted, front_stops}
 use Rattle.ranges.specs.Rows.{front_from}
-use Rattle.ranges.proofs.table.calls.ordered.Goals as goal
-use Rattle.ranges.proofs.table.calls.ordered.Goals.{then-range-low-via-then-range-low, then-range-low-via-else-range-low+then-range}
+use Rattle.ranges.proofs.table.ordered.Goals as goal
+use Rattle.ranges.proofs.table.ordered.Goals.{then-range-low-via-then-range-low, then-range-low-via-else-range-low+then-range}
 
 pub returns-then-range-low : goal.returns-then-range-low
 returns-then-range-low g c =

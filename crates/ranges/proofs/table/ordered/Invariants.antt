@@ -1,5 +1,5 @@
 use Rattle.std.proofs.Common.{◌≡◌, ◌+◌, length, drop}
-use Rattle.ranges.proofs.table.calls.ordered.Given as goal
+use Rattle.ranges.proofs.table.ordered.Given as goal
 use Rattle.ranges.specs.Rows.{front, front_from}
 
 abbrev pub invariant-loop-i : goal.invariant-loop-i

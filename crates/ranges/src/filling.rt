@@ -1,15 +1,21 @@
-// What a table that is being filled can be asked.
-ghost use Rattle.std.specs.Prelude.{◌≡◌, [], length, OnErr, OnOk};
-ghost use Rattle.ranges.specs.Rows.{Added, Told, placed};
-ghost use Rattle.ranges.specs.Tables.{Untouched, kept, room, rows};
+// A table that is being filled, in records that are lent for writing.
+ghost use Rattle.std.specs.Prelude.{◌≡◌, true, [], length, take, OnErr, OnOk};
+ghost use Rattle.ranges.specs.Rows.{Added, Told, ascending, placed};
 
-use crate::filling::Filling;
 use crate::range::Range;
 use crate::refusal::Refusal;
 use crate::slots::Slots;
 use crate::table::Table;
 
+#[derive(Drop)]
+pub struct Filling<'a, V> {
+    slots: Slots<'a, V>,
+    ghost ascends: { ascending (take slots.used slots.records.now) ≡ true },
+}
+
 impl<'a, V> Filling<'a, V> {
+    ghost use Rattle.ranges.specs.Tables.{kept, room, rows};
+
     // Nothing is kept, whatever the records hold.
     pub fn new(records: &'a mut [Range<V>]) -> Filling<'a, V>
         ensures empty { kept result ≡ [] }
@@ -49,6 +55,8 @@ impl<'a, V> Filling<'a, V> {
 }
 
 impl<'a, V: Copy> Filling<'a, V> {
+    ghost use Rattle.ranges.specs.Tables.{Untouched, kept, room};
+
     // Keeps one more range, in its order, or says why it can't.
     #[tactic(auto, using(crate::proofs::Placing::placed_from, crate::proofs::Placing::values_from))]
     pub fn insert(&mut self, range: Range<V>) -> Result<(), Refusal>
