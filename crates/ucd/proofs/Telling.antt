@@ -3,7 +3,7 @@ use Rattle.std.proofs.Common.{◌≡◌, ℕ, ◌≤◌, Bool, true, false, cond
 use Rattle.ranges.specs.declared.range.Range.{Range}
 use Rattle.std.proofs.lemmas.Bool.{and_from, and_parts, le-leb, leb-true, ltb-false}
 use Rattle.std.specs.List.{prefix_len}
-use Rattle.ucd.specs.Bytes.{is}
+use Rattle.ucd.specs.Bytes.{Uncommented, is}
 use Rattle.ucd.specs.Entries.{blamed, known, value_field, with_value, with_range, with_parts, entry_of}
 use Rattle.ucd.specs.Files.{Grown}
 use Rattle.ucd.specs.Lines.{Part, Layout, blank, listing, whole, layout, parts_at}
@@ -14,7 +14,6 @@ use Rattle.ucd.specs.declared.entries.Entry.TheVariants.{Nothing, Lists}
 use Rattle.ucd.specs.declared.faults.LineFault.{LineFault}
 use Rattle.ucd.specs.declared.faults.Reason.{Reason}
 use Rattle.ucd.specs.declared.faults.Reason.TheVariants.{LongLine}
-use Rattle.ucd.specs.declared.kinds.Kind.TheVariants.{Uncommented}
 use Rattle.ucd.proofs.Growth.{ListsValue, grown_by_nothing}
 use Rattle.ucd.proofs.Ranges.{read_spelled, spelled}
 use Rattle.ucd.proofs.Shapes.{listing_written, written_listing}

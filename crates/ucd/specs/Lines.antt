@@ -1,13 +1,12 @@
 -- Lines of a data file: fields parted by ';', and a comment from '#' on. Assumes nothing.
 use Rattle.std.specs.Prelude.{◌≡◌, ℕ, ◌+◌, ◌-◌, Bool, false, cond, ◌&&◌, List, length, take, drop, Ok, Err, Result, ◌==◌, nat_lt, slice_index}
 use Rattle.std.specs.List.{prefix_len}
-use Rattle.ucd.specs.Bytes.{is, stripped}
+use Rattle.ucd.specs.Bytes.{Uncommented, InField, Blank, is, stripped}
 use Rattle.ucd.specs.declared.faults.Field.TheVariants.{Whole}
 use Rattle.ucd.specs.declared.faults.Finder.TheVariants.{Line}
 use Rattle.ucd.specs.declared.faults.LineFault.{LineFault}
 use Rattle.ucd.specs.declared.faults.Reason.{Reason}
 use Rattle.ucd.specs.declared.faults.Reason.TheVariants.{LongLine, FieldCount}
-use Rattle.ucd.specs.declared.kinds.Kind.TheVariants.{Uncommented, InField, Blank}
 use Rattle.ucd.specs.declared.pieces.Parts.{Parts}
 use Rattle.ucd.specs.declared.pieces.Parts.TheVariants.{Blank as blank_parts, Listing as listing_parts}
 use Rattle.ucd.specs.declared.pieces.Piece.{Piece}

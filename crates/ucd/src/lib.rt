@@ -9,7 +9,6 @@ mod entries;
 mod faults;
 mod fields;
 mod files;
-mod kinds;
 mod lines;
 mod parts;
 mod pieces;

@@ -4,9 +4,8 @@ ghost use Rattle.ucd.specs.Lines.{core_of, field, two_fields, layout, seen, whol
 ghost use Rattle.ucd.specs.Written.{PartsStand};
 
 use crate::faults::{Field, Finder, LineFault, Reason};
-use crate::kinds::Kind;
 use crate::pieces::{Parts, Piece};
-use crate::runs::{count_leading, strip};
+use crate::runs::{is_blank, strip};
 
 // No line may have more bytes.
 const LONGEST_LINE: usize = 1024;
@@ -31,7 +30,7 @@ fn field_at(bytes: &[u8], place: usize, closing: bool) -> Piece<'_>
     let skipped = if core.is_empty() {
         bytes.len()
     } else {
-        count_leading(bytes, Kind::Blank)
+        bytes.iter().take_while(|b| is_blank(**b)).count()
     };
     Piece {
         bytes: core,
@@ -58,12 +57,11 @@ fn part_fields<'a>(
 ) -> Result<Parts<'a>, LineFault>
     ensures { Laid result (two_fields closing bytes.now (seen comment.entry)) }
 {
-    let first = count_leading(bytes, Kind::InField);
-    if first == bytes.len() {
+    let Some(first) = bytes.iter().position(|b| *b == b';') else {
         return Err(fault_of_line(Reason::FieldCount));
-    }
+    };
     let rest = &bytes[first + 1..];
-    if count_leading(rest, Kind::InField) < rest.len() {
+    if rest.contains(&b';') {
         return Err(fault_of_line(Reason::FieldCount));
     }
     Ok(Parts::Listing {
@@ -81,7 +79,7 @@ pub fn take_apart(line: &[u8]) -> Result<Parts<'_>, LineFault>
     if line.len() > LONGEST_LINE {
         return Err(fault_of_line(Reason::LongLine));
     }
-    let end = count_leading(line, Kind::Uncommented);
+    let end = line.iter().take_while(|b| **b != b'#').count();
     let comment = Piece {
         bytes: &line[end..],
         place: end,
