@@ -4,13 +4,12 @@ use Rattle.ranges.specs.Rows.{lookup, placed, shares_any}
 use Rattle.ranges.specs.declared.range.Range.{Range}
 use Rattle.ucd.specs.Entries.{entry_of}
 use Rattle.ucd.specs.Written.{Tells}
-use Rattle.ucd.specs.declared.entries.Entry.{Entry}
-use Rattle.ucd.specs.declared.entries.Entry.TheVariants.{Nothing, Lists}
 use Rattle.ucd.specs.declared.faults.Fault.{Fault}
 use Rattle.ucd.specs.declared.faults.Field.TheVariants.{Whole, First}
 use Rattle.ucd.specs.declared.faults.Finder.TheVariants.{File}
 use Rattle.ucd.specs.declared.faults.LineFault.{LineFault}
 use Rattle.ucd.specs.declared.faults.Reason.TheVariants.{Shared, Full}
+use Rattle.ucd.specs.declared.listings.Listing.{Listing}
 
 -- a fault of the line of this number
 abbrev pub on_line : ℕ → LineFault → Fault
@@ -25,20 +24,20 @@ abbrev pub full_fault : ℕ → Fault
 full_fault number = record { reason = Full; line = number; field = Whole; place = 0; finder = File }
 
 -- the fault of the line of this number, if it has one, with these rows in a table with so much room
-abbrev pub fault_in : {V : Type 0} → ℕ → List (Range V) → ℕ → Result (Entry V) LineFault → Option Fault
-fault_in room rows number (Ok Nothing) = None
-fault_in room rows number (Ok (Lists range place)) =
-    cond (shares_any rows range) (Some (shared_fault number place)) (cond (nat_lt (length rows) room) None (Some (full_fault number)))
+abbrev pub fault_in : {V : Type 0} → ℕ → List (Range V) → ℕ → Result (Option (Listing V)) LineFault → Option Fault
+fault_in room rows number (Ok None) = None
+fault_in room rows number (Ok (Some listing)) =
+    cond (shares_any rows listing.range) (Some (shared_fault number listing.place)) (cond (nat_lt (length rows) room) None (Some (full_fault number)))
 fault_in room rows number (Err fault) = Some (on_line number fault)
 
 -- an answer refuses the line for its fault, and takes it if it has none
-abbrev pub Answered : {V T : Type 0} → ℕ → List (Range V) → ℕ → Result (Entry V) LineFault → Result T Fault → Type 0
+abbrev pub Answered : {V T : Type 0} → ℕ → List (Range V) → ℕ → Result (Option (Listing V)) LineFault → Result T Fault → Type 0
 Answered room rows number entry r = MatchResult r (λ _. fault_in room rows number entry ≡ None) (λ fault. fault_in room rows number entry ≡ Some fault)
 
 -- the rows with what the line lists
-abbrev pub rows_with : {V : Type 0} → List (Range V) → Result (Entry V) LineFault → List (Range V)
-rows_with rows (Ok Nothing) = rows
-rows_with rows (Ok (Lists range place)) = placed range rows
+abbrev pub rows_with : {V : Type 0} → List (Range V) → Result (Option (Listing V)) LineFault → List (Range V)
+rows_with rows (Ok None) = rows
+rows_with rows (Ok (Some listing)) = placed listing.range rows
 rows_with rows (Err fault) = rows
 
 -- some line lists this value for the code point

@@ -1,16 +1,15 @@
 // Reads a data file into a table, line by line.
-ghost use Rattle.std.specs.Prelude.{◌≡◌, ◌≤◌, length, Ok, MatchResult, OnOk};
+ghost use Rattle.std.specs.Prelude.{◌≡◌, ◌≤◌, length, Ok, Some, MatchResult, OnOk};
 ghost use Rattle.cutting.specs.Pieces.{lines, Lined};
 ghost use Rattle.ranges.specs.Rows.{Added, placed};
 ghost use Rattle.ranges.specs.Tables.{Untouched, kept, room, rows};
 ghost use Rattle.ucd.specs.Entries.{entry_of};
 ghost use Rattle.ucd.specs.Written.{Tells};
-ghost use Rattle.ucd.specs.declared.entries.Entry.TheVariants.{Lists};
 ghost use Rattle.ucd.specs.Files.{on_line, Answered, rows_with, Grown, Loads, Goes};
 
-use crate::entries::Entry;
 use crate::faults::{Fault, Field, Finder, LineFault, Reason};
 use crate::lines::read_line;
+use crate::listings::Listing;
 use cutting::{Stop, cut};
 use properties::Property;
 use ranges::{Filling, Range, Refusal, Table};
@@ -33,20 +32,19 @@ fn on_line(fault: LineFault, line: usize) -> Fault
     }
 }
 
-// Puts a range whose field begins at the place into the table.
+// Puts what the line of this number lists into the table.
 fn keep<V: Copy>(
-    range: Range<V>,
-    place: usize,
+    listing: Listing<V>,
     number: usize,
     table: &mut Filling<'_, V>,
 ) -> Result<(), Fault>
-    requires { range.first ≤ range.last }
-    ensures told { Answered (room table.old) (kept table.old) number (Ok (Lists range place)) result }
-    ensures rows { MatchResult result (λ _. kept table.new ≡ placed range (kept table.old)) (λ _. Untouched table.old table.new) }
+    requires { listing.range.first ≤ listing.range.last }
+    ensures told { Answered (room table.old) (kept table.old) number (Ok (Some listing)) result }
+    ensures rows { MatchResult result (λ _. kept table.new ≡ placed listing.range (kept table.old)) (λ _. Untouched table.old table.new) }
     ensures same_room { room table.new ≡ room table.old }
-    ensures values { OnOk result (Added range (kept table.old) (kept table.new)) }
+    ensures values { OnOk result (Added listing.range (kept table.old) (kept table.new)) }
 {
-    match table.insert(range) {
+    match table.insert(listing.range) {
         Ok(()) => Ok(()),
         Err(refusal) => match refusal {
             Refusal::Backward => unreachable(),
@@ -54,7 +52,7 @@ fn keep<V: Copy>(
                 reason: Reason::Shared,
                 line: number,
                 field: Field::First,
-                place,
+                place: listing.place,
                 finder: Finder::File,
             }),
             Refusal::Full => Err(Fault {
@@ -80,13 +78,13 @@ pub fn read_data_line<P: Property>(
     ensures same_room { room table.new ≡ room table.old }
     ensures values { OnOk result (Grown (Tells P.Property.listed line.now) (kept table.old) (kept table.new)) }
 {
-    let entry = match read_line::<P>(line) {
-        Ok(entry) => entry,
+    let listed = match read_line::<P>(line) {
+        Ok(listed) => listed,
         Err(fault) => return Err(on_line(fault, number)),
     };
-    match entry {
-        Entry::Nothing => Ok(()),
-        Entry::Lists { range, place } => keep(range, place, number, table),
+    match listed {
+        Some(listing) => keep(listing, number, table),
+        None => Ok(()),
     }
 }
 
