@@ -1,8 +1,12 @@
 -- Rows of bytes cut into pieces: a script into lines, a line into words. Assumes nothing.
 use Rattle.std.specs.Prelude.{◌≡◌, ℕ, ◌<◌, Bool, cond, ◌||◌, ◌⊎◌, List, [], ◌∷◌, ◌++◌, length, ◌==◌, ◌≢◌, slice_index}
 use Rattle.std.specs.List.{AllByRecursion}
-use Rattle.cutting.specs.declared.stops.Stop.{Stop}
-use Rattle.cutting.specs.declared.stops.Stop.TheVariants.{Newline, Hash, Blank}
+
+-- what ends a piece: a line feed a line, '#' a statement, and a space, a tab or a carriage return a word
+pub data Stop : Type 0 where
+  Newline : Stop
+  Hash : Stop
+  Blank : Stop
 
 -- whether a byte ends a piece
 abbrev pub ends : Stop → ℕ → Bool
@@ -62,9 +66,3 @@ filled ((b ∷ bs) ∷ ps) = (b ∷ bs) ∷ filled ps
 -- words are parted by one blank or more
 abbrev pub words : List ℕ → List (List ℕ)
 words bytes = filled (pieces Blank bytes)
-
--- the first word of a text and what follows it; an empty word where the text has none
-pub record Begins (text word rest : List ℕ) : Type 0 where
-  pub some : 0 < length word → words text ≡ word ∷ words rest
-  pub none : length word ≡ 0 → words text ≡ []
-  pub shorter : 0 < length word → length rest < length text

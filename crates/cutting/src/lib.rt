@@ -1,8 +1,10 @@
-// Rows of bytes cut into pieces: a file into lines, a line into words.
+// Rows of bytes cut into pieces: a file into lines, a line into what stands before its comment, and words.
 #![tactic(auto)]
 
-mod cutting;
-mod stops;
+mod cut;
+mod lines;
+mod words;
 
-pub use cutting::{cut, next_word};
-pub use stops::Stop;
+pub use cut::statement;
+pub use lines::Lines;
+pub use words::Words;

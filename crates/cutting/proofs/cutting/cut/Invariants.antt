@@ -1,5 +1,0 @@
-use Rattle.cutting.proofs.Cuts.{GoesOn}
-use Rattle.cutting.proofs.cutting.cut.Given as goal
-
-abbrev pub invariant-loop-i : goal.invariant-loop-i
-invariant-loop-i l = GoesOn l.stop l.bytes l.i

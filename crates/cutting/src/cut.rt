@@ -1,0 +1,28 @@
+// Cuts a row of bytes at the first byte of a kind.
+ghost use Rattle.std.specs.Prelude.{◌≡◌, ◌==◌, position};
+ghost use Rattle.std.specs.List.{after_first, before_first};
+ghost use Rattle.cutting.specs.Pieces.{statement};
+
+fn first_place(bytes: &[u8], end: u8) -> Option<usize>
+    ensures { result ≡ position (λ b. b == end) bytes.now }
+{
+    bytes.iter().position(|b| *b == end)
+}
+
+// What stands before the first of these bytes, and what follows it; all and nothing where there is none.
+pub(crate) fn cut(bytes: &[u8], end: u8) -> (&[u8], &[u8])
+    ensures front { result.0.now ≡ before_first (λ b. b == end) bytes.now }
+    ensures rest { result.1.now ≡ after_first (λ b. b == end) bytes.now }
+{
+    match first_place(bytes, end) {
+        Some(i) => (&bytes[..i], &bytes[i + 1..]),
+        None => (bytes, &[]),
+    }
+}
+
+// What stands before the comment, which goes from '#' on.
+pub fn statement(line: &[u8]) -> &[u8]
+    ensures { result.now ≡ statement line.now }
+{
+    cut(line, b'#').0
+}

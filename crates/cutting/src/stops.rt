@@ -1,8 +1,0 @@
-// What ends a piece of a script: a line, a statement before a comment, a word.
-#[derive(Clone, Copy)]
-pub enum Stop {
-    Newline,
-    Hash,
-    // A space, a tab or a carriage return.
-    Blank,
-}
