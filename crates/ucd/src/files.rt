@@ -10,7 +10,7 @@ ghost use Rattle.ucd.specs.Files.{on_line, Answered, rows_with, Grown, Loads, Go
 use crate::faults::{Fault, Field, Finder, LineFault, Reason};
 use crate::lines::read_line;
 use crate::listings::Listing;
-use cutting::{Stop, cut};
+use cutting::Lines;
 use properties::Property;
 use ranges::{Filling, Range, Refusal, Table};
 
@@ -94,15 +94,12 @@ fn read_lines<P: Property>(bytes: &[u8], table: &mut Filling<'_, P>) -> Result<u
     ensures goes { Goes P.Property.listed P.Property.meant P.Property.shared (room table.old) (lines bytes.now) (kept table.old) (kept table.new) result }
     ensures same_room { room table.new ≡ room table.old }
 {
-    let mut rest = bytes;
-    let mut number: usize = 0;
-    while !rest.is_empty() {
-        let (line, behind) = cut(rest, Stop::Newline);
-        number += 1;
-        read_data_line(line, number, table)?;
-        rest = behind;
+    let mut count = 0;
+    for (i, line) in Lines::new(bytes).enumerate() {
+        count = i + 1;
+        read_data_line(line, count, table)?;
     }
-    Ok(number)
+    Ok(count)
 }
 
 // Reads a file into a table in these records, and tells how many lines it has. Where a line is refused
