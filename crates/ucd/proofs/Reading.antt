@@ -5,7 +5,7 @@ use Rattle.ranges.specs.declared.range.Range.{Range}
 use Rattle.std.proofs.lemmas.List.{get_or_append_left, get_or_at}
 use Rattle.std.proofs.lemmas.Bool.{cases_lt}
 use Rattle.ucd.specs.Entries.{entry_of}
-use Rattle.ucd.specs.Files.{fault_in, rows_with, SomeLine, Grown, Reads, ReadAll, Stopped, Loaded, Unloaded}
+use Rattle.ucd.specs.Files.{fault_in, rows_with, SomeLine, Grown, Reads, ReadAll, Stopped, Loaded}
 use Rattle.ucd.specs.Written.{Tells}
 use Rattle.ucd.specs.declared.faults.Fault.{Fault}
 
@@ -103,10 +103,3 @@ module _ {V : Type 0} (listed : V → Option (List ℕ)) (meant : List ℕ → O
     where
       unlisted : (c : ℕ) (v : V) → ◌≡◌ {A = Option V} None (Some v) → ⊥
       unlisted c v e = let z : ◌≡◌ {A = ℕ} 0 1 = cc in omega arith
-
-  pub unloaded : (room : ℕ) (ls : List (List ℕ)) (before left rows : List (Range V)) (fault : Fault) → before ≡ [] → rows ≡ [] → Stopped meant shared room ls before left fault → Unloaded meant shared room ls rows fault
-  unloaded room ls before left rows fault none empty h = record {
-    empty = empty;
-    left = left;
-    stopped = subst (λ b. Stopped meant shared room ls b left fault) none h;
-  }

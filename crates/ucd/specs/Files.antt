@@ -1,7 +1,9 @@
 -- What a data file lists of a property, and what reading it leaves in a table. Assumes nothing.
 use Rattle.std.specs.Prelude.{◌≡◌, ℕ, suc, ◌<◌, Bool, cond, ◌⊎◌, List, [], ◌∷◌, ◌++◌, length, Some, None, Ok, Err, Option, Result, MatchResult, nat_lt, slice_index_or}
 use Rattle.ranges.specs.Rows.{lookup, placed, shares_any}
+use Rattle.ranges.specs.Tables.{rows}
 use Rattle.ranges.specs.declared.range.Range.{Range}
+use Rattle.ranges.specs.declared.table.Table.{Table}
 use Rattle.ucd.specs.Entries.{entry_of}
 use Rattle.ucd.specs.Written.{Tells}
 use Rattle.ucd.specs.declared.faults.Fault.{Fault}
@@ -83,13 +85,12 @@ pub record Loaded {V : Type 0} (listed : V → Option (List ℕ)) (meant : List 
   pub has : (c : ℕ) (v : V) → SomeLine listed ls c v → lookup rows c ≡ Some v
   pub only : (c : ℕ) (v : V) → lookup rows c ≡ Some v → SomeLine listed ls c v
 
--- no table of a file, since a line of it is refused
-pub record Unloaded {V : Type 0} (meant : List ℕ → Option V) (shared : Bool) (room : ℕ) (ls : List (List ℕ)) (rows : List (Range V)) (fault : Fault) : Type 0 where
-  pub empty : rows ≡ []
+-- no table of a file, since a line of it is refused, and what the lines before it left
+pub record Unloaded {V : Type 0} (meant : List ℕ → Option V) (shared : Bool) (room : ℕ) (ls : List (List ℕ)) (fault : Fault) : Type 0 where
   pub left : List (Range V)
   pub stopped : Stopped meant shared room ls [] left fault
 
--- the table and the answer of a file
-abbrev pub Loads : {V : Type 0} → (V → Option (List ℕ)) → (List ℕ → Option V) → Bool → ℕ → List (List ℕ) → List (Range V) → Result ℕ Fault → Type 0
-Loads listed meant shared room ls rows (Ok number) = Loaded listed meant shared room ls rows number
-Loads listed meant shared room ls rows (Err fault) = Unloaded meant shared room ls rows fault
+-- the answer of a file: its table and how many lines it has, or its fault
+abbrev pub Loads : {V : Type 0} → (V → Option (List ℕ)) → (List ℕ → Option V) → Bool → ℕ → List (List ℕ) → Result (Table V × ℕ) Fault → Type 0
+Loads listed meant shared room ls (Ok answer) = Loaded listed meant shared room ls (rows answer.0) answer.1
+Loads listed meant shared room ls (Err fault) = Unloaded meant shared room ls fault

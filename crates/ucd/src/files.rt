@@ -2,7 +2,7 @@
 ghost use Rattle.std.specs.Prelude.{◌≡◌, ◌≤◌, length, Ok, Some, MatchResult, OnOk};
 ghost use Rattle.cutting.specs.Pieces.{lines, Lined};
 ghost use Rattle.ranges.specs.Rows.{Added, placed};
-ghost use Rattle.ranges.specs.Tables.{Untouched, kept, room, rows};
+ghost use Rattle.ranges.specs.Tables.{Untouched, kept, room};
 ghost use Rattle.ucd.specs.Entries.{entry_of};
 ghost use Rattle.ucd.specs.Written.{Tells};
 ghost use Rattle.ucd.specs.Files.{on_line, Answered, rows_with, Grown, Loads, Goes};
@@ -103,17 +103,15 @@ fn read_lines<P: Property>(bytes: &[u8], table: &mut Filling<'_, P>) -> Result<u
 }
 
 // Reads a file into a table in these records, and tells how many lines it has. Where a line is refused
-// the table is empty.
+// there is no table.
 pub fn read_file<'a, P: Property>(
     bytes: &[u8],
     records: &'a mut [Range<P>],
-) -> (Table<'a, P>, Result<usize, Fault>)
-    ensures loads { Loads P.Property.listed P.Property.meant P.Property.shared (length records.old) (lines bytes.now) (rows result.0) result.1 }
+) -> Result<(Table<'a, P>, usize), Fault>
+    ensures loads { Loads P.Property.listed P.Property.meant P.Property.shared (length records.old) (lines bytes.now) result }
     ensures lined { Lined bytes.now }
 {
     let mut filling = Filling::new(records);
-    match read_lines(bytes, &mut filling) {
-        Ok(count) => (filling.table(), Ok(count)),
-        Err(fault) => (Table::new(&[]), Err(fault)),
-    }
+    let count = read_lines(bytes, &mut filling)?;
+    Ok((filling.table(), count))
 }

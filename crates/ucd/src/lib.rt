@@ -1,7 +1,6 @@
 // Readers of the Unicode data files: a field, a line, a file.
 //
-//     let (table, answer) = read_file(bytes, &mut records);
-//     let lines = answer?;
+//     let (table, lines) = read_file(bytes, &mut records)?;
 //     let class: LineClass = value_of(&table, 0x1F468);
 #![tactic(auto)]
 
