@@ -56,12 +56,6 @@ module _ {V : Type 0} (meant : List ℕ → Option V) (shared : Bool) where
       by_layout (Ok (listing r v c)) laid e = by_range r v c (range_of r.text) laid refl e
       by_layout (Err fault) laid e = let z : ◌≡◌ {A = ℕ} 0 1 = cc in absurd (omega arith)
 
-  -- no range that was read is backward
-  pub forward : (line : List ℕ) (kept : Listing V) → entry_of meant shared line ≡ Ok (Some kept) → kept.range.first ≤ kept.range.last
-  forward line kept e =
-      let s = source line kept e in
-      (spelled s.r.text (kept.range.first, kept.range.last) s.ends).1
-
   -- a line that was read is not too long
   short_enough : (line : List ℕ) (entry : Option (Listing V)) → entry_of meant shared line ≡ Ok entry → length line ≤ 1024
   short_enough line entry e = by_case (ltb 1024 (length line)) refl e

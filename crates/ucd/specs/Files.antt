@@ -15,15 +15,15 @@ use Rattle.ucd.specs.declared.listings.Listing.{Listing}
 
 -- a fault of the line of this number
 abbrev pub on_line : ℕ → LineFault → Fault
-on_line number f = record { reason = f.reason; line = number; field = f.field; place = f.place; finder = f.finder }
+on_line number f = record { line = number; in_line = f }
 
 -- a range whose field begins at this place shares a code point with a kept one
 abbrev pub shared_fault : ℕ → ℕ → Fault
-shared_fault number place = record { reason = Shared; line = number; field = First; place = place; finder = File }
+shared_fault number place = on_line number (record { reason = Shared; field = First; place = place; finder = File })
 
 -- no record is free for the range of the line
 abbrev pub full_fault : ℕ → Fault
-full_fault number = record { reason = Full; line = number; field = Whole; place = 0; finder = File }
+full_fault number = on_line number (record { reason = Full; field = Whole; place = 0; finder = File })
 
 -- the fault of the line of this number, if it has one, with these rows in a table with so much room
 abbrev pub fault_in : {V : Type 0} → ℕ → List (Range V) → ℕ → Result (Option (Listing V)) LineFault → Option Fault

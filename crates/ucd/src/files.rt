@@ -5,7 +5,7 @@ ghost use Rattle.ranges.specs.Rows.{Added, placed};
 ghost use Rattle.ranges.specs.Tables.{Untouched, kept, room};
 ghost use Rattle.ucd.specs.Entries.{entry_of};
 ghost use Rattle.ucd.specs.Written.{Tells};
-ghost use Rattle.ucd.specs.Files.{on_line, Answered, rows_with, Grown, Loads, Goes};
+ghost use Rattle.ucd.specs.Files.{Answered, rows_with, Grown, Loads, Goes};
 
 use crate::faults::{Fault, Field, Finder, LineFault, Reason};
 use crate::lines::read_line;
@@ -13,24 +13,6 @@ use crate::listings::Listing;
 use cutting::Lines;
 use properties::Property;
 use ranges::{Filling, Range, Refusal, Table};
-
-fn on_line(fault: LineFault, line: usize) -> Fault
-    ensures { result ≡ on_line line fault }
-{
-    let LineFault {
-        reason,
-        field,
-        place,
-        finder,
-    } = fault;
-    Fault {
-        reason,
-        line,
-        field,
-        place,
-        finder,
-    }
-}
 
 // Puts what the line of this number lists into the table.
 fn keep<V: Copy>(
@@ -44,26 +26,24 @@ fn keep<V: Copy>(
     ensures same_room { room table.new ≡ room table.old }
     ensures values { OnOk result (Added listing.range (kept table.old) (kept table.new)) }
 {
-    match table.insert(listing.range) {
-        Ok(()) => Ok(()),
-        Err(refusal) => match refusal {
-            Refusal::Backward => unreachable(),
-            Refusal::Shared => Err(Fault {
-                reason: Reason::Shared,
-                line: number,
-                field: Field::First,
-                place: listing.place,
-                finder: Finder::File,
-            }),
-            Refusal::Full => Err(Fault {
-                reason: Reason::Full,
-                line: number,
-                field: Field::Whole,
-                place: 0,
-                finder: Finder::File,
-            }),
-        },
-    }
+    let Err(refusal) = table.insert(listing.range) else {
+        return Ok(());
+    };
+    let (reason, field, place) = match refusal {
+        Refusal::Backward => unreachable(),
+        Refusal::Shared => (Reason::Shared, Field::First, listing.place),
+        Refusal::Full => (Reason::Full, Field::Whole, 0),
+    };
+    let in_line = LineFault {
+        reason,
+        field,
+        place,
+        finder: Finder::File,
+    };
+    Err(Fault {
+        line: number,
+        in_line,
+    })
 }
 
 // Reads the line of this number, which is given without its line feed, into the table. A line that is
@@ -78,10 +58,10 @@ pub fn read_data_line<P: Property>(
     ensures same_room { room table.new ≡ room table.old }
     ensures values { OnOk result (Grown (Tells P.Property.listed line.now) (kept table.old) (kept table.new)) }
 {
-    let listed = match read_line::<P>(line) {
-        Ok(listed) => listed,
-        Err(fault) => return Err(on_line(fault, number)),
-    };
+    let listed = read_line::<P>(line).map_err(|in_line| Fault {
+        line: number,
+        in_line,
+    })?;
     match listed {
         Some(listing) => keep(listing, number, table),
         None => Ok(()),

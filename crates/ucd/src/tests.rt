@@ -18,11 +18,11 @@ fn told(answer: Result<(), Fault>) -> Told {
     match answer {
         Ok(()) => KEPT,
         Err(fault) => (
-            fault.reason.number(),
+            fault.in_line.reason.number(),
             fault.line,
-            fault.field.number(),
-            fault.place,
-            fault.finder.name(),
+            fault.in_line.field.number(),
+            fault.in_line.place,
+            fault.in_line.finder.name(),
         ),
     }
 }
