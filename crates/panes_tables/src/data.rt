@@ -33,14 +33,7 @@ pub(crate) fn free_records<V: Copy>(heap: Global, value: V) -> Result<Vec<Range<
 }
 
 fn tell_fault(rt: &HostRuntime, folder: &str, name: &str, fault: Fault) -> anyhow::Result<()> {
-    let line = fault.line;
-    let field = fault.in_line.field.number();
-    let place = fault.in_line.place;
-    let number = fault.in_line.reason.number();
-    let sentence = fault.in_line.reason.sentence();
-    eprintln!(rt;
-        "panes_tables: {folder}/{name}: line {line}, field {field}, byte {place}: refused {number}: {sentence}"
-    )?;
+    eprintln!(rt; "panes_tables: {folder}/{name}: {fault}")?;
     Ok(())
 }
 
