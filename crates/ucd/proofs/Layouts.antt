@@ -1,10 +1,10 @@
 -- How a line is laid out, from where its first ';' and its first '#' stand. Assumes nothing.
-use Rattle.std.proofs.Common.{◌≡◌, ℕ, ◌+◌, ◌<◌, ◌≤◌, Bool, true, false, cond, ◌&&◌, eqb, ltb, List, length, take, drop, Ok, Err, sym, refl, ap, ◌∙◌, arith}
-use Rattle.std.proofs.lemmas.Bool.{ne_eqb, eq-eqb, le-ltb, and_from, and_left, and_right, cond-true, cond-false}
+use Rattle.std.proofs.Common.{◌≡◌, ℕ, ◌+◌, ◌<◌, ◌≤◌, Bool, true, false, cond, ◌&&◌, eqb, ltb, List, length, take, drop, Ok, Err, sym, ap, ◌∙◌, arith}
+use Rattle.std.proofs.lemmas.Bool.{ne_eqb, eq-eqb, le-ltb, and_from, and_right, cond-true, cond-false}
 use Rattle.std.specs.List.{list_any, prefix_len}
 use Rattle.ucd.proofs.Counts.{none_pass, some_pass}
 use Rattle.ucd.specs.Bytes.{Uncommented, InField, is}
-use Rattle.ucd.specs.Lines.{Part, blank, listing, core_of, field, whole, fields_at, two_fields, parts_at, layout}
+use Rattle.ucd.specs.Lines.{Part, blank, listing, core_of, field, whole, fields_at, parts_once, two_fields, parts_at, layout}
 use Rattle.ucd.specs.declared.faults.Reason.TheVariants.{FieldCount}
 
 -- the two fields where the first ';' stands at this place
@@ -12,24 +12,22 @@ pub at_fields : (closing : Bool) (s : List ℕ) (comment : Part) (front rest : L
 at_fields closing s comment front rest first at is_front is_rest =
     ap (fields_at closing s comment) (sym at) ∙ (λ i. cond (ltb first (length s) && eqb (prefix_len (is InField) (is_rest i)) (length (is_rest i))) (Ok (listing (field false 0 (is_front i)) (field closing (first + 1) (is_rest i)) comment)) (Err (whole FieldCount)))
 
--- no ';' stands before the comment
-pub no_field : (closing : Bool) (s : List ℕ) (comment : Part) → ltb (prefix_len (is InField) s) (length s) ≡ false → two_fields closing s comment ≡ Err (whole FieldCount)
-no_field closing s comment none = cond-false _ _ _ (and_left _ _ none)
-
 -- a second ';' follows the first
-pub many_fields : (closing : Bool) (s : List ℕ) (comment : Part) (first : ℕ) (rest : List ℕ) → first ≡ prefix_len (is InField) s → rest ≡ drop (first + 1) s → list_any (λ b. eqb b 59) rest ≡ true → two_fields closing s comment ≡ Err (whole FieldCount)
-many_fields closing s comment first rest at is_rest more =
+pub parts_more : (s : List ℕ) (first : ℕ) (rest : List ℕ) → rest ≡ drop (first + 1) s → list_any (λ b. eqb b 59) rest ≡ true → parts_once s first ≡ false
+parts_more s first rest is_rest more =
     let short : prefix_len (is InField) rest < length rest = some_pass (λ b. eqb b 59) rest more in
     let over : prefix_len (is InField) rest ≡ length rest → ⊥ = λ same. omega (arith, same, short) in
-    at_fields closing s comment (take first s) rest first at refl (sym is_rest) ∙ cond-false _ _ _ (and_right _ _ (ne_eqb _ _ over))
+    and_right _ _ (ap (λ l. eqb (prefix_len (is InField) l) (length l)) (sym is_rest) ∙ ne_eqb _ _ over)
 
--- one ';' stands before the comment
-pub both_fields : (closing : Bool) (s : List ℕ) (comment range value : Part) (first : ℕ) (front rest : List ℕ) → first ≡ prefix_len (is InField) s → ltb first (length s) ≡ true → front ≡ take first s → rest ≡ drop (first + 1) s → list_any (λ b. eqb b 59) rest ≡ false → range ≡ field false 0 front → value ≡ field closing (first + 1) rest → two_fields closing s comment ≡ Ok (listing range value comment)
-both_fields closing s comment range value first front rest at within is_front is_rest no_more is-range is-value =
-    let all : prefix_len (is InField) rest ≡ length rest = none_pass (λ b. eqb b 59) rest no_more in
-    at_fields closing s comment front rest first at (sym is_front) (sym is_rest)
-    ∙ cond-true _ _ _ (and_from _ _ within (eq-eqb _ _ all))
-    ∙ sym (λ i. Ok (listing (is-range i) (is-value i) comment))
+-- none does
+pub parts_one : (s : List ℕ) (first : ℕ) (rest : List ℕ) → ltb first (length s) ≡ true → rest ≡ drop (first + 1) s → list_any (λ b. eqb b 59) rest ≡ false → parts_once s first ≡ true
+parts_one s first rest within is_rest no_more =
+    and_from _ _ within (ap (λ l. eqb (prefix_len (is InField) l) (length l)) (sym is_rest) ∙ eq-eqb _ _ (none_pass (λ b. eqb b 59) rest no_more))
+
+-- the two fields of bytes that are cut at their only ';'
+pub both_fields : (closing : Bool) (s : List ℕ) (comment range value : Part) → parts_once s (prefix_len (is InField) s) ≡ true → range ≡ field false 0 (take (prefix_len (is InField) s) s) → value ≡ field closing (prefix_len (is InField) s + 1) (drop (prefix_len (is InField) s + 1) s) → two_fields closing s comment ≡ Ok (listing range value comment)
+both_fields closing s comment range value once is-range is-value =
+    cond-true _ _ _ once ∙ sym (λ i. Ok (listing (is-range i) (is-value i) comment))
 
 -- a line that is not too long, by where its comment begins
 short_line : (line : List ℕ) (end : ℕ) → length line ≤ 1024 → end ≡ prefix_len (is Uncommented) line → layout line ≡ parts_at line end

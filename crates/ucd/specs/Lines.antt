@@ -49,10 +49,14 @@ field closing place s = record {
 abbrev pub whole : Reason → LineFault
 whole why = record { reason = why; field = Whole; place = 0; finder = Line }
 
+-- whether the first ';', which stands at `first`, is there, and no other follows it
+abbrev pub parts_once : List ℕ → ℕ → Bool
+parts_once s first = nat_lt first (length s) && prefix_len (is InField) (drop (first + 1) s) == length (drop (first + 1) s)
+
 -- the parts of a line with these bytes before its comment, if the first ';' stands at `first`: no other may follow
 abbrev pub fields_at : Bool → List ℕ → Part → ℕ → Result Layout LineFault
 fields_at closing s comment first =
-    cond (nat_lt first (length s) && prefix_len (is InField) (drop (first + 1) s) == length (drop (first + 1) s))
+    cond (parts_once s first)
     (Ok (listing (field false 0 (take first s)) (field closing (first + 1) (drop (first + 1) s)) comment))
     (Err (whole FieldCount))
 

@@ -14,6 +14,7 @@ mod pieces;
 mod points;
 mod runs;
 mod sentences;
+mod stretches;
 
 pub use faults::{Fault, Field, Finder, LineFault, Reason};
 pub use files::{read_data_line, read_file};

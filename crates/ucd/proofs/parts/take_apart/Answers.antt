@@ -1,10 +1,12 @@
-use Rattle.std.proofs.Common.{◌≡◌, ◌-◌, take, ap, subst, rules, tests, arith}
+use Rattle.std.proofs.Common.{◌≡◌, ◌+◌, ◌-◌, eqb, length, take, Err, sym, ap, ◌∙◌, rules, tests, arith}
+use Rattle.std.proofs.lemmas.Bool.{cond-false}
 use Rattle.std.proofs.lemmas.Iterator.{YieldsList-from_slice}
 use Rattle.std.proofs.lemmas.List.{take_rest}
-use Rattle.ucd.specs.Bytes.{Uncommented, is}
-use Rattle.ucd.specs.Lines.{Laid}
+use Rattle.std.specs.List.{prefix_len}
+use Rattle.ucd.specs.Bytes.{Uncommented, InField, is}
+use Rattle.ucd.specs.Lines.{field}
 use Rattle.ucd.proofs.Counts.{counted}
-use Rattle.ucd.proofs.Layouts.{blank_line, data_line}
+use Rattle.ucd.proofs.Layouts.{blank_line, both_fields, data_line}
 use Rattle.ucd.proofs.Standing.{parts_stand}
 use Rattle.ucd.proofs.parts.take_apart.Goals as goal
 
@@ -15,7 +17,19 @@ returns-then-is_empty c =
     let run = counted _ (is Uncommented) _ c.count-end.ensures.ran (YieldsList-from_slice line cc) c.take_while.ensures.closure c.take_while.ensures.done (λ x b q k. search (rules, tests)) in
     let front : take (end - 0) line ≡ take end line = ap (λ n. take n line) (omega arith) in
     record {
-      parts = blank_line line _ _ _ end c.if-line-gt-LONGEST_LINE.false run front c.core_of.ensures c.if-is_empty.ensures (take_rest line end);
+      parts = blank_line line _ _ _ end c.if-line-gt-LONGEST_LINE.false run front c.core.ensures c.if-is_empty.ensures (take_rest line end);
+      stand = parts_stand line;
+    }
+
+pub returns-in_default : goal.returns-in_default
+returns-in_default c =
+    let line = c.args.line.now in
+    let end = c.count-end.result in
+    let run = counted _ (is Uncommented) _ c.count-end.ensures.ran (YieldsList-from_slice line cc) c.take_while.ensures.closure c.take_while.ensures.done (λ x b q k. search (rules, tests)) in
+    let front : take (end - 0) line ≡ take end line = ap (λ n. take n line) (omega arith) in
+    let laid = data_line line _ _ _ end c.if-line-gt-LONGEST_LINE.false run front c.core.ensures c.if-is_empty.ensures (take_rest line end) in
+    record {
+      parts = sym laid ∙ cond-false _ _ _ c.in_default.ensures ∙ ap Err (sym c.fault_of_line-in_default.ensures);
       stand = parts_stand line;
     }
 
@@ -25,7 +39,11 @@ returns c =
     let end = c.count-end.result in
     let run = counted _ (is Uncommented) _ c.count-end.ensures.ran (YieldsList-from_slice line cc) c.take_while.ensures.closure c.take_while.ensures.done (λ x b q k. search (rules, tests)) in
     let front : take (end - 0) line ≡ take end line = ap (λ n. take n line) (omega arith) in
+    let laid = data_line line _ _ _ end c.if-line-gt-LONGEST_LINE.false run front c.core.ensures c.if-is_empty.ensures (take_rest line end) in
+    let s = take (end - 0) line in
+    let h = c.in-Some.ensures in
+    let behind : c.in-Some.value.place ≡ prefix_len (is InField) s + 1 = omega (arith, h.2.1) in
     record {
-      parts = subst (Laid c.part_fields.result) (data_line line _ _ _ end c.if-line-gt-LONGEST_LINE.false run front c.core_of.ensures c.if-is_empty.ensures (take_rest line end)) c.part_fields.ensures;
+      parts = sym laid ∙ both_fields (eqb end (length line)) s _ _ _ h.0 (c.field.ensures ∙ (λ i. field (h.1.0 i) (h.1.1 i) (h.1.2 i))) (c.field-2.ensures ∙ (λ i. field (h.2.0 i) (behind i) (h.2.2 i)));
       stand = parts_stand line;
     }
