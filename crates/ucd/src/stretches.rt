@@ -23,8 +23,8 @@ impl<'a> Stretch<'a> {
         ensures { result.now ≡ core_of self.entry.closing self.entry.bytes.now }
     {
         match self.bytes {
-            [front @ .., last] if self.closing && *last == b'\r' => strip(front),
-            _ => strip(self.bytes),
+            [front @ .., b'\r'] if self.closing => strip(front),
+            bytes => strip(bytes),
         }
     }
 
