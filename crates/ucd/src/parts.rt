@@ -5,6 +5,7 @@ ghost use Rattle.ucd.specs.Written.{PartsStand};
 
 use crate::faults::{Field, Finder, LineFault, Reason};
 use crate::pieces::{Parts, Piece};
+use crate::runs::first_place;
 use crate::stretches::Stretch;
 
 // No line may have more bytes.
@@ -29,7 +30,7 @@ pub fn take_apart(line: &[u8]) -> Result<Parts<'_>, LineFault>
     if line.len() > LONGEST_LINE {
         return Err(fault_of_line(Reason::LongLine));
     }
-    let end = line.iter().take_while(|b| **b != b'#').count();
+    let end = first_place(line, b'#').unwrap_or(line.len());
     let comment = Piece {
         bytes: &line[end..],
         place: end,

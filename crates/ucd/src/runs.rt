@@ -1,8 +1,9 @@
-// Runs of bytes of one kind.
-ghost use Rattle.std.specs.Prelude.{◌≡◌};
+// Runs of bytes of one kind, and what ends them.
+ghost use Rattle.std.specs.Prelude.{◌≡◌, ◌≤◌, ◌==◌, length, position};
+ghost use Rattle.std.specs.List.{prefix_len, suffix_len};
 ghost use Rattle.ucd.specs.Bytes.{Blank as blank, Digit as digit, is, stripped};
 
-pub(crate) fn is_blank(b: u8) -> bool
+fn is_blank(b: u8) -> bool
     ensures { result ≡ is blank b }
 {
     b == b' ' || b == b'\t'
@@ -15,16 +16,34 @@ pub(crate) fn is_digit(b: u8) -> bool
     b >= b'0' && b <= b'9' || b >= b'A' && b <= b'F'
 }
 
+// Where the byte stands first.
+pub(crate) fn first_place(bytes: &[u8], byte: u8) -> Option<usize>
+    ensures { result ≡ position (λ b. b == byte) bytes.now }
+{
+    bytes.iter().position(|b| *b == byte)
+}
+
+// How many blanks lead.
+pub(crate) fn leading_blanks(bytes: &[u8]) -> usize
+    ensures run { result ≡ prefix_len (is blank) bytes.now }
+    ensures within { result ≤ length bytes.now }
+{
+    bytes.iter().take_while(|b| is_blank(**b)).count()
+}
+
+// How many blanks trail.
+fn trailing_blanks(bytes: &[u8]) -> usize
+    ensures run { result ≡ suffix_len (is blank) bytes.now }
+    ensures within { result ≤ length bytes.now }
+{
+    bytes.iter().rev().take_while(|b| is_blank(**b)).count()
+}
+
 // The bytes without the blanks around them.
 pub(crate) fn strip(bytes: &[u8]) -> &[u8]
     ensures { result.now ≡ stripped bytes.now }
 {
-    let before = bytes.iter().take_while(|b| is_blank(**b)).count();
-    let behind = bytes.iter().rev().take_while(|b| is_blank(**b)).count();
-    let end = bytes.len() - behind;
-    if before < end {
-        &bytes[before..end]
-    } else {
-        &[]
-    }
+    let start = leading_blanks(bytes);
+    let end = bytes.len() - trailing_blanks(bytes);
+    if start < end { &bytes[start..end] } else { &[] }
 }

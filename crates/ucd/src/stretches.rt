@@ -3,7 +3,7 @@ ghost use Rattle.std.specs.Prelude.{◌≡◌, ◌+◌, ◌^◌, ◌<◌, length
 ghost use Rattle.ucd.specs.Lines.{core_of, field, seen};
 
 use crate::pieces::Piece;
-use crate::runs::{is_blank, strip};
+use crate::runs::{first_place, leading_blanks, strip};
 
 // Bytes of a line, and where in the line they begin.
 #[derive(Clone, Copy)]
@@ -36,7 +36,7 @@ impl<'a> Stretch<'a> {
         let skipped = if core.is_empty() {
             self.bytes.len()
         } else {
-            self.bytes.iter().take_while(|b| is_blank(**b)).count()
+            leading_blanks(self.bytes)
         };
         Piece {
             bytes: core,
@@ -48,9 +48,9 @@ impl<'a> Stretch<'a> {
     pub(crate) fn halves(self) -> Option<(Stretch<'a>, Stretch<'a>)>
         ensures { Halved self.entry result }
     {
-        let first = self.bytes.iter().position(|b| *b == b';')?;
+        let first = first_place(self.bytes, b';')?;
         let rest = &self.bytes[first + 1..];
-        if rest.contains(&b';') {
+        if first_place(rest, b';').is_some() {
             return None;
         }
         let front = Stretch {

@@ -1,20 +1,19 @@
-use Rattle.std.proofs.Common.{◌≡◌, ◌+◌, ◌-◌, eqb, length, take, Err, sym, ap, ◌∙◌, rules, tests, arith}
+use Rattle.std.proofs.Common.{◌≡◌, ◌+◌, ◌-◌, eqb, length, take, Err, sym, ap, ◌∙◌, arith}
 use Rattle.std.proofs.lemmas.Bool.{cond-false}
-use Rattle.std.proofs.lemmas.Iterator.{YieldsList-from_slice}
 use Rattle.std.proofs.lemmas.List.{take_rest}
 use Rattle.std.specs.List.{prefix_len}
-use Rattle.ucd.specs.Bytes.{Uncommented, InField, is}
+use Rattle.std.specs.Option.{unwrap_or}
+use Rattle.ucd.specs.Bytes.{InField, is}
 use Rattle.ucd.specs.Lines.{field}
-use Rattle.ucd.proofs.Counts.{counted}
-use Rattle.ucd.proofs.Layouts.{blank_line, both_fields, data_line}
+use Rattle.ucd.proofs.Layouts.{first_or_end, blank_line, both_fields, data_line}
 use Rattle.ucd.proofs.Standing.{parts_stand}
 use Rattle.ucd.proofs.parts.take_apart.Goals as goal
 
 pub returns-then-is_empty : goal.returns-then-is_empty
 returns-then-is_empty c =
     let line = c.args.line.now in
-    let end = c.count-end.result in
-    let run = counted _ (is Uncommented) _ c.count-end.ensures.ran (YieldsList-from_slice line cc) c.take_while.ensures.closure c.take_while.ensures.done (λ x b q k. search (rules, tests)) in
+    let end = c.unwrap_or-end.result in
+    let run = c.unwrap_or-end.ensures ∙ ap (λ o. unwrap_or o (length line)) c.first_place.ensures ∙ first_or_end 35 line in
     let front : take (end - 0) line ≡ take end line = ap (λ n. take n line) (omega arith) in
     record {
       parts = blank_line line _ _ _ end c.if-line-gt-LONGEST_LINE.false run front c.core.ensures c.if-is_empty.ensures (take_rest line end);
@@ -24,8 +23,8 @@ returns-then-is_empty c =
 pub returns-in_default : goal.returns-in_default
 returns-in_default c =
     let line = c.args.line.now in
-    let end = c.count-end.result in
-    let run = counted _ (is Uncommented) _ c.count-end.ensures.ran (YieldsList-from_slice line cc) c.take_while.ensures.closure c.take_while.ensures.done (λ x b q k. search (rules, tests)) in
+    let end = c.unwrap_or-end.result in
+    let run = c.unwrap_or-end.ensures ∙ ap (λ o. unwrap_or o (length line)) c.first_place.ensures ∙ first_or_end 35 line in
     let front : take (end - 0) line ≡ take end line = ap (λ n. take n line) (omega arith) in
     let laid = data_line line _ _ _ end c.if-line-gt-LONGEST_LINE.false run front c.core.ensures c.if-is_empty.ensures (take_rest line end) in
     record {
@@ -36,8 +35,8 @@ returns-in_default c =
 pub returns : goal.returns
 returns c =
     let line = c.args.line.now in
-    let end = c.count-end.result in
-    let run = counted _ (is Uncommented) _ c.count-end.ensures.ran (YieldsList-from_slice line cc) c.take_while.ensures.closure c.take_while.ensures.done (λ x b q k. search (rules, tests)) in
+    let end = c.unwrap_or-end.result in
+    let run = c.unwrap_or-end.ensures ∙ ap (λ o. unwrap_or o (length line)) c.first_place.ensures ∙ first_or_end 35 line in
     let front : take (end - 0) line ≡ take end line = ap (λ n. take n line) (omega arith) in
     let laid = data_line line _ _ _ end c.if-line-gt-LONGEST_LINE.false run front c.core.ensures c.if-is_empty.ensures (take_rest line end) in
     let s = take (end - 0) line in
