@@ -33,14 +33,7 @@ pub(crate) fn free_records<V: Copy>(heap: Global, value: V) -> Result<Vec<Range<
 }
 
 fn tell_fault(rt: &HostRuntime, folder: &str, name: &str, fault: Fault) -> anyhow::Result<()> {
-    let line = fault.line;
-    let field = fault.field.number();
-    let place = fault.place;
-    let number = fault.reason.number();
-    let sentence = fault.reason.sentence();
-    eprintln!(rt;
-        "panes_tables: {folder}/{name}: line {line}, field {field}, byte {place}: refused {number}: {sentence}"
-    )?;
+    eprintln!(rt; "panes_tables: {folder}/{name}: {fault}")?;
     Ok(())
 }
 
@@ -49,36 +42,21 @@ fn read_data(rt: &HostRuntime, folder: &str, name: &str) -> anyhow::Result<Vec<u
     read_path(rt, path.as_str())
 }
 
-// The answer of a file, with its fault told.
-fn told(
-    rt: &HostRuntime,
-    folder: &str,
-    name: &str,
-    answer: Result<usize, Fault>,
-) -> anyhow::Result<usize> {
-    match answer {
-        Ok(lines) => Ok(lines),
-        Err(fault) => {
-            tell_fault(rt, folder, name, fault)?;
-            Err(anyhow!("nothing was done, since a data file is refused"))
-        }
-    }
-}
-
-// Reads a data file into a table in these records, and tells how many lines it has. Where that fails
-// the table is empty.
+// Reads a data file into a table in these records, and tells how many lines it has. A fault of the file
+// is told before the error comes.
 pub(crate) fn load<'a, P: Property>(
     rt: &HostRuntime,
     folder: &str,
     name: &str,
     records: &'a mut [Range<P>],
-) -> (Table<'a, P>, anyhow::Result<usize>) {
-    match read_data(rt, folder, name) {
-        Ok(bytes) => {
-            let (table, answer) = read_file(bytes.as_slice(), records);
-            (table, told(rt, folder, name, answer))
+) -> anyhow::Result<(Table<'a, P>, usize)> {
+    let bytes = read_data(rt, folder, name)?;
+    match read_file(bytes.as_slice(), records) {
+        Ok(loaded) => Ok(loaded),
+        Err(fault) => {
+            tell_fault(rt, folder, name, fault)?;
+            Err(anyhow!("nothing was done, since a data file is refused"))
         }
-        Err(e) => (Table::new(&[]), Err(e)),
     }
 }
 

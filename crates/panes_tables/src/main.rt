@@ -78,22 +78,23 @@ fn replay(rt: &HostRuntime, folder: &str, script: &[u8]) -> anyhow::Result<()> {
     let mut category = free_records(heap, Category::Cn)?;
     let mut width = free_records(heap, Width::N)?;
     let mut pictograph = free_records(heap, false)?;
-    let (line, line_count) = load(rt, folder, LINE_FILE, line.as_mut_slice());
-    let (grapheme, grapheme_count) = load(rt, folder, GRAPHEME_FILE, grapheme.as_mut_slice());
-    let (category, category_count) = load(rt, folder, CATEGORY_FILE, category.as_mut_slice());
-    let (width, width_count) = load(rt, folder, WIDTH_FILE, width.as_mut_slice());
-    let (pictograph, pictograph_count) = load(
-        rt,
-        folder,
-        PICTOGRAPH_FILE,
-        pictograph.as_mut_slice(),
-    );
+    // All are loaded before the first that failed ends the program, so that each fault is told.
+    let line = load(rt, folder, LINE_FILE, line.as_mut_slice());
+    let grapheme = load(rt, folder, GRAPHEME_FILE, grapheme.as_mut_slice());
+    let category = load(rt, folder, CATEGORY_FILE, category.as_mut_slice());
+    let width = load(rt, folder, WIDTH_FILE, width.as_mut_slice());
+    let pictograph = load(rt, folder, PICTOGRAPH_FILE, pictograph.as_mut_slice());
+    let (line, line_count) = line?;
+    let (grapheme, grapheme_count) = grapheme?;
+    let (category, category_count) = category?;
+    let (width, width_count) = width?;
+    let (pictograph, pictograph_count) = pictograph?;
     let lines = [
-        line_count?,
-        grapheme_count?,
-        category_count?,
-        width_count?,
-        pictograph_count?,
+        line_count,
+        grapheme_count,
+        category_count,
+        width_count,
+        pictograph_count,
     ];
     let tables = Tables {
         line,

@@ -5,9 +5,8 @@ use Rattle.std.proofs.lemmas.Bool.{and_from, and_parts, cond-true, eq-eqb, leb-t
 use Rattle.std.specs.Str.Parse.{digits_value_after}
 use Rattle.std.specs.Char.{digit_value}
 use Rattle.std.specs.List.{prefix_len}
-use Rattle.ucd.specs.Bytes.{is}
+use Rattle.ucd.specs.Bytes.{Digit, is}
 use Rattle.ucd.specs.Points.{digit_of, pointed, point_of, behind, last_point, end_of}
-use Rattle.ucd.specs.declared.kinds.Kind.TheVariants.{Digit}
 
 -- so many of six digits are still to be read
 pub record Remains (text : List ℕ) (number : ℕ) (rest : List ℕ) : Type 0 where

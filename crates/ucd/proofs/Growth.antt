@@ -5,13 +5,13 @@ use Rattle.ranges.specs.declared.range.Range.{Range}
 use Rattle.std.proofs.lemmas.Bool.{and_from, and_parts, both_ways, cases_Bool, cond-true, cond-false, le-leb, leb-true, or_parts}
 use Rattle.ucd.specs.Entries.{entry_of}
 use Rattle.ucd.specs.Files.{Answered, Grown, full_fault, shared_fault}
-use Rattle.ucd.specs.declared.entries.Entry.TheVariants.{Lists, Nothing}
 use Rattle.ucd.specs.declared.faults.Fault.{Fault}
+use Rattle.ucd.specs.declared.listings.Listing.{Listing}
 
 -- the line lists this value for the code point, as the reader reads it
 abbrev pub ListsValue : {V : Type 0} → (List ℕ → Option V) → Bool → List ℕ → ℕ → V → Type 0
 ListsValue {V} meant shared line c v =
-    (range : Range V) × (place : ℕ) × (entry_of meant shared line ≡ Ok (Lists range place)) × (holds range c ≡ true) × (range.value ≡ v)
+    (listing : Listing V) × (entry_of meant shared line ≡ Ok (Some listing)) × (holds listing.range c ≡ true) × (listing.range.value ≡ v)
 
 -- a code point of both is shared
 both_hold : {V : Type 0} (a b : Range V) (c : ℕ) → holds a c ≡ true → holds b c ≡ true → shares a b ≡ true
@@ -35,20 +35,20 @@ unshared (row ∷ rows) range c v found apart =
     by_case false there found other behind = behind found
 
 -- a line whose range was put among the rows
-grown_by_range : {V : Type 0} (meant : List ℕ → Option V) (shared : Bool) (line : List ℕ) (range : Range V) (place : ℕ) (before after : List (Range V)) → entry_of meant shared line ≡ Ok (Lists range place) → shares_any before range ≡ false → Added range before after → Grown (ListsValue meant shared line) before after
-grown_by_range {V} meant shared line range place before after entry apart values = record {
-  stays = λ c v found. values c ∙ cond-false _ _ _ (unshared before range c v found apart) ∙ found;
+grown_by_range : {V : Type 0} (meant : List ℕ → Option V) (shared : Bool) (line : List ℕ) (listing : Listing V) (before after : List (Range V)) → entry_of meant shared line ≡ Ok (Some listing) → shares_any before listing.range ≡ false → Added listing.range before after → Grown (ListsValue meant shared line) before after
+grown_by_range {V} meant shared line listing before after entry apart values = record {
+  stays = λ c v found. values c ∙ cond-false _ _ _ (unshared before listing.range c v found apart) ∙ found;
   gains = λ c v listed. gained c v listed;
-  only = λ c v found. from c v (holds range c) refl (sym (values c) ∙ found);
+  only = λ c v found. from c v (holds listing.range c) refl (sym (values c) ∙ found);
 }
   where
     gained : (c : ℕ) (v : V) → ListsValue meant shared line c v → lookup after c ≡ Some v
     gained c v listed =
-        let same : range ≡ listed.0 = cc (entry, listed.2) in
-        values c ∙ cond-true _ _ _ (ap (λ r. holds r c) same ∙ listed.3) ∙ ap Some (ap (λ (r : Range V). r.value) same ∙ listed.4)
+        let same : listing ≡ listed.0 = cc (entry, listed.1) in
+        values c ∙ cond-true _ _ _ (ap (λ (l : Listing V). holds l.range c) same ∙ listed.2) ∙ ap Some (ap (λ (l : Listing V). l.range.value) same ∙ listed.3)
 
-    from : (c : ℕ) (v : V) (b : Bool) → holds range c ≡ b → cond b (Some range.value) (lookup before c) ≡ Some v → (lookup before c ≡ Some v) ⊎ ListsValue meant shared line c v
-    from c v true here e = inr (range, place, entry, here, (let value : range.value ≡ v = cc in value))
+    from : (c : ℕ) (v : V) (b : Bool) → holds listing.range c ≡ b → cond b (Some listing.range.value) (lookup before c) ≡ Some v → (lookup before c ≡ Some v) ⊎ ListsValue meant shared line c v
+    from c v true here e = inr (listing, entry, here, (let value : listing.range.value ≡ v = cc in value))
     from c v false there e = inl e
 
 -- a range that is kept shares nothing
@@ -57,13 +57,13 @@ kept_apart true free x y e = let z : ◌≡◌ {A = ℕ} 0 1 = cc in absurd (ome
 kept_apart false free x y e = refl
 
 -- what is known of a line's range is known of the line
-pub grown_by_line : {V T : Type 0} (meant : List ℕ → Option V) (shared : Bool) (room number : ℕ) (line : List ℕ) (range : Range V) (place : ℕ) (before after : List (Range V)) (r : Result T Fault) → entry_of meant shared line ≡ Ok (Lists range place) → Answered room before number (Ok (Lists range place)) r → IfOk r (λ _. Added range before after) → IfOk r (λ _. Grown (ListsValue meant shared line) before after)
-grown_by_line meant shared room number line range place before after (Ok done) entry told added =
-    grown_by_range meant shared line range place before after entry (kept_apart (shares_any before range) (ltb (length before) room) (shared_fault number place) (full_fault number) told) added
-grown_by_line meant shared room number line range place before after (Err fault) entry told added = tt
+pub grown_by_line : {V T : Type 0} (meant : List ℕ → Option V) (shared : Bool) (room number : ℕ) (line : List ℕ) (listing : Listing V) (before after : List (Range V)) (r : Result T Fault) → entry_of meant shared line ≡ Ok (Some listing) → Answered room before number (Ok (Some listing)) r → IfOk r (λ _. Added listing.range before after) → IfOk r (λ _. Grown (ListsValue meant shared line) before after)
+grown_by_line meant shared room number line listing before after (Ok done) entry told added =
+    grown_by_range meant shared line listing before after entry (kept_apart (shares_any before listing.range) (ltb (length before) room) (shared_fault number listing.place) (full_fault number) told) added
+grown_by_line meant shared room number line listing before after (Err fault) entry told added = tt
 
 -- a line that lists nothing
-pub grown_by_nothing : {V : Type 0} (meant : List ℕ → Option V) (shared : Bool) (line : List ℕ) (rows : List (Range V)) → entry_of meant shared line ≡ Ok Nothing → Grown (ListsValue meant shared line) rows rows
+pub grown_by_nothing : {V : Type 0} (meant : List ℕ → Option V) (shared : Bool) (line : List ℕ) (rows : List (Range V)) → entry_of meant shared line ≡ Ok None → Grown (ListsValue meant shared line) rows rows
 grown_by_nothing {V} meant shared line rows entry = record {
   stays = λ c v found. found;
   gains = λ c v listed. none c v listed;
@@ -71,4 +71,4 @@ grown_by_nothing {V} meant shared line rows entry = record {
 }
   where
     none : (c : ℕ) (v : V) → ListsValue meant shared line c v → lookup rows c ≡ Some v
-    none c v (range, place, lists, here, is-value) = let z : ◌≡◌ {A = ℕ} 0 1 = cc in absurd (omega arith)
+    none c v (listing, lists, here, is-value) = let z : ◌≡◌ {A = ℕ} 0 1 = cc in absurd (omega arith)

@@ -1,3 +1,4 @@
+mod Counts
 mod Layouts
 mod Digits
 mod Growth

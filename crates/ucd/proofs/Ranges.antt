@@ -4,12 +4,11 @@ use Rattle.std.proofs.lemmas.List.{drop_at, nil_from_length, take_at}
 use Rattle.std.proofs.lemmas.Bool.{and_from, and_parts, cond-true, eq-eqb, eqb-true, le-leb, leb-true}
 use Rattle.std.specs.Str.Parse.{digits_value}
 use Rattle.std.specs.List.{prefix_len}
-use Rattle.ucd.specs.Bytes.{is}
+use Rattle.ucd.specs.Bytes.{Digit, is}
 use Rattle.ucd.specs.Points.{pointed, point_of, behind, last_point, end_of, in_order, range_of}
 use Rattle.ucd.specs.Written.{Breaks, Of, Spells, Writes}
 use Rattle.ucd.specs.declared.faults.Reason.{Reason}
 use Rattle.ucd.specs.declared.faults.Reason.TheVariants.{BadRange, BadPoint}
-use Rattle.ucd.specs.declared.kinds.Kind.TheVariants.{Digit}
 use Rattle.ucd.proofs.Spans.{leading_run, split}
 
 -- an answer that is no fault passed the test

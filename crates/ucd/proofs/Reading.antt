@@ -1,12 +1,11 @@
 -- Lines read one after the other. Assumes nothing.
-use Rattle.std.proofs.Common.{◌≡◌, ℕ, suc, ◌+◌, ◌<◌, ◌≤◌, Bool, ◌⊎◌, List, [], ◌∷◌, ◌++◌, length, Some, None, Option, sym, refl, ap, ◌∙◌, subst, inl, inr, ⊎_elim, append_assoc, append-nil, arith, length-append}
-use Rattle.cutting.specs.Pieces.{lines}
+use Rattle.std.proofs.Common.{◌≡◌, ℕ, suc, ◌+◌, Bool, ◌⊎◌, List, [], ◌∷◌, ◌++◌, length, Some, None, Option, sym, refl, ap, ◌∙◌, subst, inl, inr, ⊎_elim, append_assoc, arith, length-append}
 use Rattle.ranges.specs.Rows.{lookup}
 use Rattle.ranges.specs.declared.range.Range.{Range}
 use Rattle.std.proofs.lemmas.List.{get_or_append_left, get_or_at}
 use Rattle.std.proofs.lemmas.Bool.{cases_lt}
 use Rattle.ucd.specs.Entries.{entry_of}
-use Rattle.ucd.specs.Files.{fault_in, rows_with, SomeLine, Grown, Reads, ReadAll, Stopped, Loaded, Unloaded}
+use Rattle.ucd.specs.Files.{fault_in, rows_with, SomeLine, Grown, Reads, ReadAll, Stopped, Loaded}
 use Rattle.ucd.specs.Written.{Tells}
 use Rattle.ucd.specs.declared.faults.Fault.{Fault}
 
@@ -56,58 +55,39 @@ module _ {V : Type 0} (listed : V → Option (List ℕ)) (meant : List ℕ → O
     only = λ c v found. inl found;
   }
 
-  -- the lines that were read, and the bytes that were not
-  pub record Sofar (room : ℕ) (bytes rest : List ℕ) (number : ℕ) (before after : List (Range V)) : Type 0 where
+  -- so many lines were read, and these are left
+  pub record Sofar (room : ℕ) (ls left : List (List ℕ)) (number : ℕ) (before after : List (Range V)) : Type 0 where
     pub seen : List (List ℕ)
-    pub split : lines bytes ≡ seen ++ lines rest
+    pub split : ls ≡ seen ++ left
     pub count : number ≡ length seen
-    pub few : number + length rest ≤ length bytes
     pub read : Reads meant shared room 1 seen before after
     pub values : Grown (SomeLine listed seen) before after
 
-  pub sofar_none : (room : ℕ) (bytes : List ℕ) (rows : List (Range V)) → Sofar room bytes bytes 0 rows rows
-  sofar_none room bytes rows = record {
-    seen = [];
-    split = refl;
-    count = refl;
-    few = omega arith;
-    read = refl;
-    values = grown_none rows;
-  }
+  pub sofar_none : (room : ℕ) (ls left : List (List ℕ)) (rows : List (Range V)) → left ≡ ls → Sofar room ls left 0 rows rows
+  sofar_none room ls left rows all = record { seen = []; split = sym all; count = refl; read = refl; values = grown_none rows }
 
-  pub sofar_more : (room : ℕ) (bytes rest line behind : List ℕ) (number : ℕ) (before middle after : List (Range V)) → Sofar room bytes rest number before middle → lines rest ≡ line ∷ lines behind → length behind < length rest → fault_in room middle (number + 1) (entry_of meant shared line) ≡ None → after ≡ rows_with middle (entry_of meant shared line) → Grown (Tells listed line) middle after → Sofar room bytes behind (number + 1) before after
-  sofar_more room bytes rest line behind number before middle after h cut shorter taken left grown = record {
+  pub sofar_more : (room : ℕ) (ls left behind : List (List ℕ)) (line : List ℕ) (number i : ℕ) (before middle after : List (Range V)) → Sofar room ls left number before middle → left ≡ line ∷ behind → i ≡ number → fault_in room middle (i + 1) (entry_of meant shared line) ≡ None → after ≡ rows_with middle (entry_of meant shared line) → Grown (Tells listed line) middle after → Sofar room ls behind (i + 1) before after
+  sofar_more room ls left behind line number i before middle after h first here taken rows grown = record {
     seen = h.seen ++ (line ∷ []);
-    split = h.split ∙ ap (λ ls. h.seen ++ ls) cut ∙ sym (append_assoc h.seen (line ∷ []) (lines behind));
-    count = omega (arith, h.count, length-append h.seen (line ∷ []));
-    few = omega (arith, h.few);
+    split = h.split ∙ ap (λ l. h.seen ++ l) first ∙ sym (append_assoc h.seen (line ∷ []) behind);
+    count = omega (arith, here, h.count, length-append h.seen (line ∷ []));
     read = (
-        let number_is : number + 1 ≡ 1 + length h.seen = omega (arith, h.count) in
-        reads_push room h.seen line 1 before middle after h.read (subst (λ n. fault_in room middle n (entry_of meant shared line) ≡ None) number_is taken) left
+        let number_is : i + 1 ≡ 1 + length h.seen = omega (arith, here, h.count) in
+        reads_push room h.seen line 1 before middle after h.read (subst (λ n. fault_in room middle n (entry_of meant shared line) ≡ None) number_is taken) rows
         );
     values = grown_push h.seen line before middle after h.values grown;
   }
 
-  -- all lines were read
-  pub sofar_all : (room : ℕ) (bytes : List ℕ) (number : ℕ) (before after : List (Range V)) → Sofar room bytes [] number before after → ReadAll listed meant shared room (lines bytes) before after number
-  sofar_all room bytes number before after h =
-      let all : h.seen ≡ lines bytes = sym (h.split ∙ append-nil h.seen) in
-      record {
-        count = h.count ∙ ap length all;
-        read = subst (λ ls. Reads meant shared room 1 ls before after) all h.read;
-        values = subst (λ ls. Grown (SomeLine listed ls) before after) all h.values;
-      }
-
   -- a line was refused
-  pub sofar_stopped : (room : ℕ) (bytes rest line behind : List ℕ) (number : ℕ) (before after : List (Range V)) (fault : Fault) → Sofar room bytes rest number before after → lines rest ≡ line ∷ lines behind → fault_in room after (number + 1) (entry_of meant shared line) ≡ Some fault → Stopped meant shared room (lines bytes) before after fault
-  sofar_stopped room bytes rest line behind number before after fault h cut refused = record {
+  pub sofar_stopped : (room : ℕ) (ls left behind : List (List ℕ)) (line : List ℕ) (number i : ℕ) (before after : List (Range V)) (fault : Fault) → Sofar room ls left number before after → left ≡ line ∷ behind → i ≡ number → fault_in room after (i + 1) (entry_of meant shared line) ≡ Some fault → Stopped meant shared room ls before after fault
+  sofar_stopped room ls left behind line number i before after fault h first here refused = record {
     seen = h.seen;
     line = line;
-    unseen = lines behind;
-    split = h.split ∙ ap (λ ls. h.seen ++ ls) cut;
+    unseen = behind;
+    split = h.split ∙ ap (λ l. h.seen ++ l) first;
     read = h.read;
     refused = (
-        let number_is : number + 1 ≡ suc (length h.seen) = omega (arith, h.count) in
+        let number_is : i + 1 ≡ suc (length h.seen) = omega (arith, here, h.count) in
         subst (λ n. fault_in room after n (entry_of meant shared line) ≡ Some fault) number_is refused
         );
   }
@@ -123,10 +103,3 @@ module _ {V : Type 0} (listed : V → Option (List ℕ)) (meant : List ℕ → O
     where
       unlisted : (c : ℕ) (v : V) → ◌≡◌ {A = Option V} None (Some v) → ⊥
       unlisted c v e = let z : ◌≡◌ {A = ℕ} 0 1 = cc in omega arith
-
-  pub unloaded : (room : ℕ) (ls : List (List ℕ)) (before left rows : List (Range V)) (fault : Fault) → before ≡ [] → rows ≡ [] → Stopped meant shared room ls before left fault → Unloaded meant shared room ls rows fault
-  unloaded room ls before left rows fault none empty h = record {
-    empty = empty;
-    left = left;
-    stopped = subst (λ b. Stopped meant shared room ls b left fault) none h;
-  }

@@ -4,12 +4,10 @@ use Rattle.std.proofs.ByRecursion.{All-append, All-weaker}
 use Rattle.std.proofs.lemmas.List.{drop_at, get_or_at, take_all, take_at, take_more, nil_from_length}
 use Rattle.std.proofs.lemmas.Bool.{and_from, and_parts, cases_Bool, cond-true, cond-false, eq-eqb, eqb-true, eqb-false, le-ltb, lt-ltb, ltb-true, ltb-false, ne_eqb, or_left, true≢false}
 use Rattle.std.specs.List.{prefix_len, AllByRecursion}
-use Rattle.ucd.specs.Bytes.{is, stripped}
+use Rattle.ucd.specs.Bytes.{Kind, Uncommented, InField, Blank, is, stripped}
 use Rattle.ucd.specs.Lines.{Part, blank, listing, unreturned, core_of, field, whole, two_fields, parts_at, layout}
 use Rattle.ucd.specs.Written.{Breaks, Of, Padded, Written}
 use Rattle.ucd.specs.declared.faults.Reason.TheVariants.{FieldCount, LongLine}
-use Rattle.ucd.specs.declared.kinds.Kind.{Kind}
-use Rattle.ucd.specs.declared.kinds.Kind.TheVariants.{Uncommented, InField, Blank}
 use Rattle.ucd.proofs.Layouts.{at_fields}
 use Rattle.ucd.proofs.Ranges.{passed}
 use Rattle.ucd.proofs.Spans.{Split, leading_run, padded, split, stripped_core}

@@ -4,10 +4,8 @@ use mathlib.Core.List.{reverse-cons}
 use Rattle.std.proofs.ByRecursion.{All-append, All-push}
 use Rattle.std.proofs.lemmas.List.{drop_at, take_at, length-reverse, reverse-append, reverse-reverse}
 use Rattle.std.specs.List.{prefix_len, suffix_len}
-use Rattle.ucd.specs.Bytes.{is, stripped}
+use Rattle.ucd.specs.Bytes.{Kind, Blank, is, stripped}
 use Rattle.ucd.specs.Written.{Of, Breaks, Padded}
-use Rattle.ucd.specs.declared.kinds.Kind.{Kind}
-use Rattle.ucd.specs.declared.kinds.Kind.TheVariants.{Blank}
 
 -- one byte more of the kind
 leading_more : (kind : Kind) (b : ℕ) (s : List ℕ) → is kind b ≡ true → prefix_len (is kind) (b ∷ s) ≡ suc (prefix_len (is kind) s)

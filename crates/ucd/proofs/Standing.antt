@@ -4,10 +4,9 @@ use Rattle.std.proofs.lemmas.List.{length-take-le, take-append-drop}
 use Rattle.std.proofs.lemmas.List.Sums.{prefix_len-le-length}
 use Rattle.std.proofs.lemmas.Bool.{and_parts, cond_both, cond-false, ltb-true, ne_eqb}
 use Rattle.std.specs.List.{prefix_len}
-use Rattle.ucd.specs.Bytes.{is, stripped}
+use Rattle.ucd.specs.Bytes.{Uncommented, InField, Blank, is, stripped}
 use Rattle.ucd.specs.Lines.{Part, core_of, field, two_fields, comment_at, layout}
 use Rattle.ucd.specs.Written.{Breaks, Padded, PartsStand, Stands}
-use Rattle.ucd.specs.declared.kinds.Kind.TheVariants.{Uncommented, InField, Blank}
 use Rattle.ucd.proofs.Shapes.{Closed, closed}
 use Rattle.ucd.proofs.Spans.{leading_run, padded}
 

@@ -1,10 +1,15 @@
 -- Bytes of a data file. Assumes nothing.
 use Rattle.std.specs.Prelude.{ℕ, ◌-◌, Bool, not, ◌&&◌, ◌||◌, List, length, take, drop, ◌==◌, nat_le}
 use Rattle.std.specs.List.{prefix_len, suffix_len}
-use Rattle.ucd.specs.declared.kinds.Kind.{Kind}
-use Rattle.ucd.specs.declared.kinds.Kind.TheVariants.{Uncommented, InField, Blank, Digit}
 
--- whether a byte is of the kind: not '#'; not ';'; a space or a tab; 0 to 9 or A to F
+-- kinds of bytes that stand in a row
+pub data Kind : Type 0 where
+  Uncommented : Kind
+  InField : Kind
+  Blank : Kind
+  Digit : Kind
+
+-- whether a byte is of the kind: not '#', which begins a comment; not ';', which parts fields; a space or a tab; 0 to 9 or A to F
 abbrev pub is : Kind → ℕ → Bool
 is Uncommented b = not (b == 35)
 is InField b = not (b == 59)

@@ -1,5 +1,7 @@
 -- Numbers and sentences of faults. Assumes nothing.
-use Rattle.std.specs.Prelude.{ℕ, List, codes}
+use Rattle.std.specs.Prelude.{ℕ, List, ◌++◌, codes}
+use Rattle.std.specs.Fmt.{decimal}
+use Rattle.ucd.specs.declared.faults.Fault.{Fault}
 use Rattle.ucd.specs.declared.faults.Field.{Field}
 use Rattle.ucd.specs.declared.faults.Field.TheVariants.{Whole, First, Second}
 use Rattle.ucd.specs.declared.faults.Finder.{Finder}
@@ -35,3 +37,12 @@ abbrev pub finder_name : Finder → List ℕ
 finder_name line_reader = codes "line reader"
 finder_name field_reader = codes "field reader"
 finder_name file_reader = codes "file reader"
+
+-- a fault as it is told: its line, field and place, then the number and the sentence of its reason
+abbrev pub fault_text : Fault → List ℕ
+fault_text fault =
+    codes "line " ++ (decimal fault.line
+    ++ (codes ", field " ++ (decimal (field_number fault.in_line.field)
+    ++ (codes ", byte " ++ (decimal fault.in_line.place
+    ++ (codes ": refused " ++ (decimal (reason_number fault.in_line.reason)
+    ++ (codes ": " ++ reason_sentence fault.in_line.reason))))))))

@@ -1,44 +1,45 @@
 -- What a data file lists of a property, and what reading it leaves in a table. Assumes nothing.
 use Rattle.std.specs.Prelude.{◌≡◌, ℕ, suc, ◌<◌, Bool, cond, ◌⊎◌, List, [], ◌∷◌, ◌++◌, length, Some, None, Ok, Err, Option, Result, MatchResult, nat_lt, slice_index_or}
 use Rattle.ranges.specs.Rows.{lookup, placed, shares_any}
+use Rattle.ranges.specs.Tables.{rows}
 use Rattle.ranges.specs.declared.range.Range.{Range}
+use Rattle.ranges.specs.declared.table.Table.{Table}
 use Rattle.ucd.specs.Entries.{entry_of}
 use Rattle.ucd.specs.Written.{Tells}
-use Rattle.ucd.specs.declared.entries.Entry.{Entry}
-use Rattle.ucd.specs.declared.entries.Entry.TheVariants.{Nothing, Lists}
 use Rattle.ucd.specs.declared.faults.Fault.{Fault}
 use Rattle.ucd.specs.declared.faults.Field.TheVariants.{Whole, First}
 use Rattle.ucd.specs.declared.faults.Finder.TheVariants.{File}
 use Rattle.ucd.specs.declared.faults.LineFault.{LineFault}
 use Rattle.ucd.specs.declared.faults.Reason.TheVariants.{Shared, Full}
+use Rattle.ucd.specs.declared.listings.Listing.{Listing}
 
 -- a fault of the line of this number
 abbrev pub on_line : ℕ → LineFault → Fault
-on_line number f = record { reason = f.reason; line = number; field = f.field; place = f.place; finder = f.finder }
+on_line number f = record { line = number; in_line = f }
 
 -- a range whose field begins at this place shares a code point with a kept one
 abbrev pub shared_fault : ℕ → ℕ → Fault
-shared_fault number place = record { reason = Shared; line = number; field = First; place = place; finder = File }
+shared_fault number place = on_line number (record { reason = Shared; field = First; place = place; finder = File })
 
 -- no record is free for the range of the line
 abbrev pub full_fault : ℕ → Fault
-full_fault number = record { reason = Full; line = number; field = Whole; place = 0; finder = File }
+full_fault number = on_line number (record { reason = Full; field = Whole; place = 0; finder = File })
 
 -- the fault of the line of this number, if it has one, with these rows in a table with so much room
-abbrev pub fault_in : {V : Type 0} → ℕ → List (Range V) → ℕ → Result (Entry V) LineFault → Option Fault
-fault_in room rows number (Ok Nothing) = None
-fault_in room rows number (Ok (Lists range place)) =
-    cond (shares_any rows range) (Some (shared_fault number place)) (cond (nat_lt (length rows) room) None (Some (full_fault number)))
+abbrev pub fault_in : {V : Type 0} → ℕ → List (Range V) → ℕ → Result (Option (Listing V)) LineFault → Option Fault
+fault_in room rows number (Ok None) = None
+fault_in room rows number (Ok (Some listing)) =
+    cond (shares_any rows listing.range) (Some (shared_fault number listing.place)) (cond (nat_lt (length rows) room) None (Some (full_fault number)))
 fault_in room rows number (Err fault) = Some (on_line number fault)
 
 -- an answer refuses the line for its fault, and takes it if it has none
-abbrev pub Answered : {V T : Type 0} → ℕ → List (Range V) → ℕ → Result (Entry V) LineFault → Result T Fault → Type 0
+abbrev pub Answered : {V T : Type 0} → ℕ → List (Range V) → ℕ → Result (Option (Listing V)) LineFault → Result T Fault → Type 0
 Answered room rows number entry r = MatchResult r (λ _. fault_in room rows number entry ≡ None) (λ fault. fault_in room rows number entry ≡ Some fault)
 
 -- the rows with what the line lists
-abbrev pub rows_with : {V : Type 0} → List (Range V) → Result (Entry V) LineFault → List (Range V)
-rows_with rows (Ok Nothing) = rows
-rows_with rows (Ok (Lists range place)) = placed range rows
+abbrev pub rows_with : {V : Type 0} → List (Range V) → Result (Option (Listing V)) LineFault → List (Range V)
+rows_with rows (Ok None) = rows
+rows_with rows (Ok (Some listing)) = placed listing.range rows
 rows_with rows (Err fault) = rows
 
 -- some line lists this value for the code point
@@ -84,13 +85,12 @@ pub record Loaded {V : Type 0} (listed : V → Option (List ℕ)) (meant : List 
   pub has : (c : ℕ) (v : V) → SomeLine listed ls c v → lookup rows c ≡ Some v
   pub only : (c : ℕ) (v : V) → lookup rows c ≡ Some v → SomeLine listed ls c v
 
--- no table of a file, since a line of it is refused
-pub record Unloaded {V : Type 0} (meant : List ℕ → Option V) (shared : Bool) (room : ℕ) (ls : List (List ℕ)) (rows : List (Range V)) (fault : Fault) : Type 0 where
-  pub empty : rows ≡ []
+-- no table of a file, since a line of it is refused, and what the lines before it left
+pub record Unloaded {V : Type 0} (meant : List ℕ → Option V) (shared : Bool) (room : ℕ) (ls : List (List ℕ)) (fault : Fault) : Type 0 where
   pub left : List (Range V)
   pub stopped : Stopped meant shared room ls [] left fault
 
--- the table and the answer of a file
-abbrev pub Loads : {V : Type 0} → (V → Option (List ℕ)) → (List ℕ → Option V) → Bool → ℕ → List (List ℕ) → List (Range V) → Result ℕ Fault → Type 0
-Loads listed meant shared room ls rows (Ok number) = Loaded listed meant shared room ls rows number
-Loads listed meant shared room ls rows (Err fault) = Unloaded meant shared room ls rows fault
+-- the answer of a file: its table and how many lines it has, or its fault
+abbrev pub Loads : {V : Type 0} → (V → Option (List ℕ)) → (List ℕ → Option V) → Bool → ℕ → List (List ℕ) → Result (Table V × ℕ) Fault → Type 0
+Loads listed meant shared room ls (Ok answer) = Loaded listed meant shared room ls (rows answer.0) answer.1
+Loads listed meant shared room ls (Err fault) = Unloaded meant shared room ls fault

@@ -1,5 +1,6 @@
 pub mod Bytes
 pub mod Lines
+pub mod Stretches
 pub mod Points
 pub mod Entries
 pub mod Files

@@ -1,13 +1,12 @@
 -- Lines of a data file: fields parted by ';', and a comment from '#' on. Assumes nothing.
 use Rattle.std.specs.Prelude.{◌≡◌, ℕ, ◌+◌, ◌-◌, Bool, false, cond, ◌&&◌, List, length, take, drop, Ok, Err, Result, ◌==◌, nat_lt, slice_index}
 use Rattle.std.specs.List.{prefix_len}
-use Rattle.ucd.specs.Bytes.{is, stripped}
+use Rattle.ucd.specs.Bytes.{Uncommented, InField, Blank, is, stripped}
 use Rattle.ucd.specs.declared.faults.Field.TheVariants.{Whole}
 use Rattle.ucd.specs.declared.faults.Finder.TheVariants.{Line}
 use Rattle.ucd.specs.declared.faults.LineFault.{LineFault}
 use Rattle.ucd.specs.declared.faults.Reason.{Reason}
 use Rattle.ucd.specs.declared.faults.Reason.TheVariants.{LongLine, FieldCount}
-use Rattle.ucd.specs.declared.kinds.Kind.TheVariants.{Uncommented, InField, Blank}
 use Rattle.ucd.specs.declared.pieces.Parts.{Parts}
 use Rattle.ucd.specs.declared.pieces.Parts.TheVariants.{Blank as blank_parts, Listing as listing_parts}
 use Rattle.ucd.specs.declared.pieces.Piece.{Piece}
@@ -50,10 +49,14 @@ field closing place s = record {
 abbrev pub whole : Reason → LineFault
 whole why = record { reason = why; field = Whole; place = 0; finder = Line }
 
+-- whether the first ';', which stands at `first`, is there, and no other follows it
+abbrev pub parts_once : List ℕ → ℕ → Bool
+parts_once s first = nat_lt first (length s) && prefix_len (is InField) (drop (first + 1) s) == length (drop (first + 1) s)
+
 -- the parts of a line with these bytes before its comment, if the first ';' stands at `first`: no other may follow
 abbrev pub fields_at : Bool → List ℕ → Part → ℕ → Result Layout LineFault
 fields_at closing s comment first =
-    cond (nat_lt first (length s) && prefix_len (is InField) (drop (first + 1) s) == length (drop (first + 1) s))
+    cond (parts_once s first)
     (Ok (listing (field false 0 (take first s)) (field closing (first + 1) (drop (first + 1) s)) comment))
     (Err (whole FieldCount))
 

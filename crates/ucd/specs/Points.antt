@@ -3,10 +3,9 @@ use Rattle.std.specs.Prelude.{ℕ, Bool, cond, ◌&&◌, List, [], ◌∷◌, le
 use Rattle.std.specs.Str.Parse.{digits_value}
 use Rattle.std.specs.Char.{digit_value}
 use Rattle.std.specs.List.{prefix_len}
-use Rattle.ucd.specs.Bytes.{is}
+use Rattle.ucd.specs.Bytes.{Digit, is}
 use Rattle.ucd.specs.declared.faults.Reason.{Reason}
 use Rattle.ucd.specs.declared.faults.Reason.TheVariants.{BadRange, BadPoint}
-use Rattle.ucd.specs.declared.kinds.Kind.TheVariants.{Digit}
 
 -- the value of a digit
 abbrev pub digit_of : ℕ → Option ℕ

@@ -2,11 +2,9 @@
 use Rattle.std.specs.Prelude.{◌≡◌, ℕ, ◌-◌, ◌≤◌, true, false, ◌⊎◌, List, [], ◌∷◌, ◌++◌, reverse, length, Some, Ok, Err, Option, Result, ◌≢◌, slice_index}
 use Rattle.std.specs.Str.Parse.{digits_value as value}
 use Rattle.std.specs.List.{AllByRecursion}
-use Rattle.ucd.specs.Bytes.{is}
+use Rattle.ucd.specs.Bytes.{Kind, Uncommented, InField, Blank, Digit, is}
 use Rattle.ucd.specs.Lines.{Part, Layout, blank, listing}
 use Rattle.ucd.specs.declared.faults.LineFault.{LineFault}
-use Rattle.ucd.specs.declared.kinds.Kind.{Kind}
-use Rattle.ucd.specs.declared.kinds.Kind.TheVariants.{Uncommented, InField, Blank, Digit}
 
 -- each byte is of the kind
 abbrev pub Of : Kind → List ℕ → Type 0

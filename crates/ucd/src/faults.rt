@@ -1,6 +1,6 @@
 // Why a line of a data file is refused, and what the fault tells.
 
-#[derive(Clone, Copy)]
+#[derive(Clone, Copy, PartialEq, Eq, Debug)]
 pub enum Reason {
     // The line has over 1,024 bytes.
     LongLine,
@@ -19,7 +19,7 @@ pub enum Reason {
 }
 
 // What of the line is at fault.
-#[derive(Clone, Copy)]
+#[derive(Clone, Copy, PartialEq, Eq, Debug)]
 pub enum Field {
     Whole,
     First,
@@ -27,7 +27,7 @@ pub enum Field {
 }
 
 // Which of the readers found the fault.
-#[derive(Clone, Copy)]
+#[derive(Clone, Copy, PartialEq, Eq, Debug)]
 pub enum Finder {
     Line,
     Field,
@@ -35,7 +35,7 @@ pub enum Finder {
 }
 
 // A fault as the line reader hands it up.
-#[derive(Clone, Copy)]
+#[derive(Clone, Copy, PartialEq, Eq, Debug)]
 pub struct LineFault {
     pub reason: Reason,
     pub field: Field,
@@ -45,11 +45,9 @@ pub struct LineFault {
 }
 
 // A fault as the file reader hands it up.
-#[derive(Clone, Copy)]
+#[derive(Clone, Copy, PartialEq, Eq, Debug)]
 pub struct Fault {
-    pub reason: Reason,
+    // The number of the line.
     pub line: usize,
-    pub field: Field,
-    pub place: usize,
-    pub finder: Finder,
+    pub in_line: LineFault,
 }

@@ -23,10 +23,7 @@ fn fault_of_field(reason: Reason, field: Field, place: usize) -> LineFault
 pub(crate) fn range_field(field: Piece<'_>) -> Result<(u32, u32), LineFault>
     ensures { result ≡ range_field (seen field.entry) }
 {
-    match read_range(field.bytes) {
-        Ok(ends) => Ok(ends),
-        Err(reason) => Err(fault_of_field(reason, Field::First, field.place)),
-    }
+    read_range(field.bytes).map_err(|reason| fault_of_field(reason, Field::First, field.place))
 }
 
 // The value that the name stands for, or none where it names another property of a shared file.

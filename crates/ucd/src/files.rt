@@ -1,71 +1,49 @@
 // Reads a data file into a table, line by line.
-ghost use Rattle.std.specs.Prelude.{◌≡◌, ◌≤◌, length, Ok, MatchResult, OnOk};
+ghost use Rattle.std.specs.Prelude.{◌≡◌, ◌≤◌, length, Ok, Some, MatchResult, OnOk};
 ghost use Rattle.cutting.specs.Pieces.{lines, Lined};
 ghost use Rattle.ranges.specs.Rows.{Added, placed};
-ghost use Rattle.ranges.specs.Tables.{Untouched, kept, room, rows};
+ghost use Rattle.ranges.specs.Tables.{Untouched, kept, room};
 ghost use Rattle.ucd.specs.Entries.{entry_of};
 ghost use Rattle.ucd.specs.Written.{Tells};
-ghost use Rattle.ucd.specs.declared.entries.Entry.TheVariants.{Lists};
-ghost use Rattle.ucd.specs.Files.{on_line, Answered, rows_with, Grown, Loads, Goes};
+ghost use Rattle.ucd.specs.Files.{Answered, rows_with, Grown, Loads, Goes};
 
-use crate::entries::Entry;
 use crate::faults::{Fault, Field, Finder, LineFault, Reason};
 use crate::lines::read_line;
-use cutting::{Stop, cut};
+use crate::listings::Listing;
+use cutting::Lines;
 use properties::Property;
 use ranges::{Filling, Range, Refusal, Table};
 
-fn on_line(fault: LineFault, line: usize) -> Fault
-    ensures { result ≡ on_line line fault }
-{
-    let LineFault {
-        reason,
-        field,
-        place,
-        finder,
-    } = fault;
-    Fault {
-        reason,
-        line,
-        field,
-        place,
-        finder,
-    }
-}
-
-// Puts a range whose field begins at the place into the table.
+// Puts what the line of this number lists into the table.
 fn keep<V: Copy>(
-    range: Range<V>,
-    place: usize,
+    listing: Listing<V>,
     number: usize,
     table: &mut Filling<'_, V>,
 ) -> Result<(), Fault>
-    requires { range.first ≤ range.last }
-    ensures told { Answered (room table.old) (kept table.old) number (Ok (Lists range place)) result }
-    ensures rows { MatchResult result (λ _. kept table.new ≡ placed range (kept table.old)) (λ _. Untouched table.old table.new) }
+    requires { listing.range.first ≤ listing.range.last }
+    ensures told { Answered (room table.old) (kept table.old) number (Ok (Some listing)) result }
+    ensures rows { MatchResult result (λ _. kept table.new ≡ placed listing.range (kept table.old)) (λ _. Untouched table.old table.new) }
     ensures same_room { room table.new ≡ room table.old }
-    ensures values { OnOk result (Added range (kept table.old) (kept table.new)) }
+    ensures values { OnOk result (Added listing.range (kept table.old) (kept table.new)) }
 {
-    match table.insert(range) {
-        Ok(()) => Ok(()),
-        Err(refusal) => match refusal {
-            Refusal::Backward => unreachable(),
-            Refusal::Shared => Err(Fault {
-                reason: Reason::Shared,
-                line: number,
-                field: Field::First,
-                place,
-                finder: Finder::File,
-            }),
-            Refusal::Full => Err(Fault {
-                reason: Reason::Full,
-                line: number,
-                field: Field::Whole,
-                place: 0,
-                finder: Finder::File,
-            }),
-        },
-    }
+    let Err(refusal) = table.insert(listing.range) else {
+        return Ok(());
+    };
+    let (reason, field, place) = match refusal {
+        Refusal::Backward => unreachable(),
+        Refusal::Shared => (Reason::Shared, Field::First, listing.place),
+        Refusal::Full => (Reason::Full, Field::Whole, 0),
+    };
+    let in_line = LineFault {
+        reason,
+        field,
+        place,
+        finder: Finder::File,
+    };
+    Err(Fault {
+        line: number,
+        in_line,
+    })
 }
 
 // Reads the line of this number, which is given without its line feed, into the table. A line that is
@@ -80,13 +58,13 @@ pub fn read_data_line<P: Property>(
     ensures same_room { room table.new ≡ room table.old }
     ensures values { OnOk result (Grown (Tells P.Property.listed line.now) (kept table.old) (kept table.new)) }
 {
-    let entry = match read_line::<P>(line) {
-        Ok(entry) => entry,
-        Err(fault) => return Err(on_line(fault, number)),
-    };
-    match entry {
-        Entry::Nothing => Ok(()),
-        Entry::Lists { range, place } => keep(range, place, number, table),
+    let listed = read_line::<P>(line).map_err(|in_line| Fault {
+        line: number,
+        in_line,
+    })?;
+    match listed {
+        Some(listing) => keep(listing, number, table),
+        None => Ok(()),
     }
 }
 
@@ -96,29 +74,24 @@ fn read_lines<P: Property>(bytes: &[u8], table: &mut Filling<'_, P>) -> Result<u
     ensures goes { Goes P.Property.listed P.Property.meant P.Property.shared (room table.old) (lines bytes.now) (kept table.old) (kept table.new) result }
     ensures same_room { room table.new ≡ room table.old }
 {
-    let mut rest = bytes;
-    let mut number: usize = 0;
-    while !rest.is_empty() {
-        let (line, behind) = cut(rest, Stop::Newline);
-        number += 1;
-        read_data_line(line, number, table)?;
-        rest = behind;
+    let mut count = 0;
+    for (i, line) in Lines::new(bytes).enumerate() {
+        count = i + 1;
+        read_data_line(line, count, table)?;
     }
-    Ok(number)
+    Ok(count)
 }
 
 // Reads a file into a table in these records, and tells how many lines it has. Where a line is refused
-// the table is empty.
+// there is no table.
 pub fn read_file<'a, P: Property>(
     bytes: &[u8],
     records: &'a mut [Range<P>],
-) -> (Table<'a, P>, Result<usize, Fault>)
-    ensures loads { Loads P.Property.listed P.Property.meant P.Property.shared (length records.old) (lines bytes.now) (rows result.0) result.1 }
+) -> Result<(Table<'a, P>, usize), Fault>
+    ensures loads { Loads P.Property.listed P.Property.meant P.Property.shared (length records.old) (lines bytes.now) result }
     ensures lined { Lined bytes.now }
 {
     let mut filling = Filling::new(records);
-    match read_lines(bytes, &mut filling) {
-        Ok(count) => (filling.table(), Ok(count)),
-        Err(fault) => (Table::new(&[]), Err(fault)),
-    }
+    let count = read_lines(bytes, &mut filling)?;
+    Ok((filling.table(), count))
 }

@@ -4,8 +4,7 @@ ghost use Rattle.ucd.specs.Points.{digit_of, pointed, point_of, behind, last_poi
 ghost use Rattle.ucd.specs.declared.faults.Reason.TheVariants.{BadRange as bad};
 
 use crate::faults::Reason;
-use crate::kinds::Kind;
-use crate::runs::count_leading;
+use crate::runs::is_digit;
 
 const LAST_CODE_POINT: u32 = 0x10FFFF;
 
@@ -13,7 +12,7 @@ const LAST_CODE_POINT: u32 = 0x10FFFF;
 fn demand_point(text: &[u8]) -> Result<(), Reason>
     ensures { MatchResult result (λ _. pointed text.now ≡ true) (λ why. (pointed text.now ≡ false) × (why ≡ bad)) }
 {
-    let digits = count_leading(text, Kind::Digit);
+    let digits = text.iter().take_while(|b| is_digit(**b)).count();
     if digits < 4 || digits > 6 {
         return Err(Reason::BadRange);
     }

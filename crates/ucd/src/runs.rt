@@ -1,52 +1,49 @@
-// Runs of bytes of one kind.
-ghost use Rattle.std.specs.Prelude.{◌≡◌, ◌≤◌, length};
+// Runs of bytes of one kind, and what ends them.
+ghost use Rattle.std.specs.Prelude.{◌≡◌, ◌≤◌, ◌==◌, length, position};
 ghost use Rattle.std.specs.List.{prefix_len, suffix_len};
-ghost use Rattle.ucd.specs.Bytes.{is, stripped};
-ghost use Rattle.ucd.specs.declared.kinds.Kind.TheVariants.{Blank as blank};
+ghost use Rattle.ucd.specs.Bytes.{Blank as blank, Digit as digit, is, stripped};
 
-use crate::kinds::Kind;
-
-fn is_of(kind: Kind, b: u8) -> bool
-    ensures { result ≡ is kind b }
+fn is_blank(b: u8) -> bool
+    ensures { result ≡ is blank b }
 {
-    match kind {
-        Kind::Uncommented => b != b'#',
-        Kind::InField => b != b';',
-        Kind::Blank => b == b' ' || b == b'\t',
-        Kind::Digit => b >= b'0' && b <= b'9' || b >= b'A' && b <= b'F',
-    }
+    b == b' ' || b == b'\t'
 }
 
-// How many bytes from the start on are of the kind.
-pub(crate) fn count_leading(bytes: &[u8], kind: Kind) -> usize
-    ensures run { result ≡ prefix_len (is kind) bytes.now }
+// Digits of base sixteen have no small letters.
+pub(crate) fn is_digit(b: u8) -> bool
+    ensures { result ≡ is digit b }
+{
+    b >= b'0' && b <= b'9' || b >= b'A' && b <= b'F'
+}
+
+// Where the byte stands first.
+pub(crate) fn first_place(bytes: &[u8], byte: u8) -> Option<usize>
+    ensures { result ≡ position (λ b. b == byte) bytes.now }
+{
+    bytes.iter().position(|b| *b == byte)
+}
+
+// How many blanks lead.
+pub(crate) fn leading_blanks(bytes: &[u8]) -> usize
+    ensures run { result ≡ prefix_len (is blank) bytes.now }
     ensures within { result ≤ length bytes.now }
 {
-    for (i, b) in bytes.iter().enumerate() {
-        if !is_of(kind, *b) {
-            return i;
-        }
-    }
-    bytes.len()
+    bytes.iter().take_while(|b| is_blank(**b)).count()
 }
 
-// How many bytes at the end are blank.
-fn count_trailing_blanks(bytes: &[u8]) -> usize
+// How many blanks trail.
+fn trailing_blanks(bytes: &[u8]) -> usize
     ensures run { result ≡ suffix_len (is blank) bytes.now }
     ensures within { result ≤ length bytes.now }
 {
-    let mut end = bytes.len();
-    while end > 0 && is_of(Kind::Blank, bytes[end - 1]) {
-        end -= 1;
-    }
-    bytes.len() - end
+    bytes.iter().rev().take_while(|b| is_blank(**b)).count()
 }
 
 // The bytes without the blanks around them.
 pub(crate) fn strip(bytes: &[u8]) -> &[u8]
     ensures { result.now ≡ stripped bytes.now }
 {
-    let start = count_leading(bytes, Kind::Blank);
-    let end = bytes.len() - count_trailing_blanks(bytes);
+    let start = leading_blanks(bytes);
+    let end = bytes.len() - trailing_blanks(bytes);
     if start < end { &bytes[start..end] } else { &[] }
 }

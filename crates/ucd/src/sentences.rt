@@ -1,8 +1,10 @@
 // What a person is told of a fault.
-ghost use Rattle.std.specs.Prelude.{◌≡◌};
-ghost use Rattle.ucd.specs.Faults.{reason_number, reason_sentence, field_number, finder_name};
+ghost use Rattle.std.specs.Prelude.{◌≡◌, Some};
+ghost use Rattle.ucd.specs.Faults.{reason_number, reason_sentence, field_number, finder_name, fault_text};
 
-use crate::faults::{Field, Finder, Reason};
+use crate::faults::{Fault, Field, Finder, LineFault, Reason};
+use std::error::Error;
+use std::fmt;
 
 impl Reason {
     // The number of the refusal.
@@ -40,6 +42,14 @@ impl Reason {
     }
 }
 
+impl fmt::Display for Reason {
+    ghost output = { λ reason. Some (reason_sentence reason) };
+
+    fn fmt<W: fmt::Write>(&self, f: &mut fmt::Formatter<W>) -> fmt::Result {
+        f.write_str(self.sentence())
+    }
+}
+
 impl Field {
     // The number of the field, and 0 for the whole line.
     pub fn number(self) -> u8
@@ -65,3 +75,35 @@ impl Finder {
         }
     }
 }
+
+impl fmt::Display for Finder {
+    ghost output = { λ finder. Some (finder_name finder) };
+
+    fn fmt<W: fmt::Write>(&self, f: &mut fmt::Formatter<W>) -> fmt::Result {
+        f.write_str(self.name())
+    }
+}
+
+impl fmt::Display for Fault {
+    ghost output = { λ fault. Some (fault_text fault) };
+
+    fn fmt<W: fmt::Write>(&self, f: &mut fmt::Formatter<W>) -> fmt::Result {
+        let Fault {
+            line,
+            in_line: LineFault {
+                reason,
+                field,
+                place,
+                finder: _,
+            },
+        } = *self;
+        let field = field.number();
+        let number = reason.number();
+        write!(
+            f,
+            "line {line}, field {field}, byte {place}: refused {number}: {reason}"
+        )
+    }
+}
+
+impl Error for Fault {}

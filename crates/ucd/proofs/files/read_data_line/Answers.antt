@@ -1,42 +1,23 @@
-use Rattle.std.proofs.Common.{◌≡◌, Ok, sym, refl, ap, ◌∙◌, subst, MatchResult}
-use Rattle.ranges.specs.Tables.{Untouched, kept, room}
+use Rattle.std.proofs.Common.{rules, ◌≡◌, Some, None, Ok}
+use Rattle.ranges.specs.Tables.{kept, room}
 use Rattle.std.proofs.lemmas.Result.{MatchResult-weaker}
 use Rattle.ucd.specs.Entries.{entry_of}
-use Rattle.ucd.specs.Files.{Answered, fault_in, rows_with}
-use Rattle.ucd.specs.declared.entries.Entry.TheVariants.{Lists, Nothing}
 use Rattle.ucd.proofs.Growth.{grown_by_line}
-use Rattle.ucd.proofs.Telling.{forward, grown_told, told_nothing}
+use Rattle.ucd.proofs.Telling.{grown_told, told_nothing}
 use Rattle.ucd.proofs.files.read_data_line.Goals as goal
 
-pub returns-in-Lists : goal.returns-in-Lists
-returns-in-Lists g c =
+pub returns-in-Some-clause-values : goal.returns-in-Some-clause-values
+returns-in-Some-clause-values g c =
     let before = c.args.table.now in
     let after = c.keep.new.table in
-    let number = c.args.number in
     let line = c.args.line.now in
-    let range = c.in-Lists.range in
-    let place = c.in-Lists.place in
+    let listing = c.in-Some.listing in
     let r = c.keep.result in
-    let entry : entry_of g.P.Property.meant g.P.Property.shared line ≡ Ok (Lists range place) = sym c.in-Ok.ensures ∙ ap Ok c.in-Lists.is in
-    record {
-      told = subst (λ e. Answered (room before) (kept before) number e r) (sym entry) c.keep.ensures.told;
-      rows = subst (λ e. MatchResult r (λ _. kept after ≡ rows_with (kept before) e) (λ _. Untouched before after)) (sym entry) c.keep.ensures.rows;
-      same_room = c.keep.ensures.same_room;
-      values = MatchResult-weaker r (grown_by_line g.P.Property.meant g.P.Property.shared (room before) number line range place (kept before) (kept after) r entry c.keep.ensures.told c.keep.ensures.values) (λ _ h. grown_told g.P.Property.meant g.P.Property.shared g.P.Property.listed g.met.P.Property.told g.met.P.Property.found line (Lists range place) entry (kept before) (kept after) h) (λ _ u. u);
-    }
+    let entry : entry_of g.P.Property.meant g.P.Property.shared line ≡ Ok (Some listing) = search rules in
+    MatchResult-weaker r (grown_by_line g.P.Property.meant g.P.Property.shared (room before) c.args.number line listing (kept before) (kept after) r entry c.keep.ensures.told c.keep.ensures.values) (λ _ h. grown_told g.P.Property.meant g.P.Property.shared g.P.Property.listed g.met.P.Property.told g.met.P.Property.found line (Some listing) entry (kept before) (kept after) h) (λ _ u. u)
 
-pub returns-in-Nothing : goal.returns-in-Nothing
-returns-in-Nothing g c =
-    let table = c.args.table.now in
+pub returns-in-None-clause-values : goal.returns-in-None-clause-values
+returns-in-None-clause-values g c =
     let line = c.args.line.now in
-    let entry : entry_of g.P.Property.meant g.P.Property.shared line ≡ Ok Nothing = sym c.in-Ok.ensures ∙ ap Ok c.in-Nothing.is in
-    record {
-      told = ap (fault_in (room table) (kept table) c.args.number) entry;
-      rows = sym (ap (rows_with (kept table)) entry);
-      same_room = refl;
-      values = told_nothing g.P.Property.meant g.P.Property.shared g.P.Property.listed g.met.P.Property.told g.met.P.Property.found line entry (kept table);
-    }
-
-pub keep-requires : goal.keep-requires
-keep-requires g c =
-    forward g.P.Property.meant g.P.Property.shared c.args.line.now c.in-Lists.range c.in-Lists.place (sym c.in-Ok.ensures ∙ ap Ok c.in-Lists.is)
+    let entry : entry_of g.P.Property.meant g.P.Property.shared line ≡ Ok None = search rules in
+    told_nothing g.P.Property.meant g.P.Property.shared g.P.Property.listed g.met.P.Property.told g.met.P.Property.found line entry (kept c.args.table.now)

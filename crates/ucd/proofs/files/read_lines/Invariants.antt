@@ -1,12 +1,12 @@
-use Rattle.std.proofs.Common.{◌≡◌, length}
+use Rattle.std.proofs.Common.{◌≡◌}
+use Rattle.cutting.specs.Left.{lines_left}
+use Rattle.cutting.specs.Pieces.{lines}
 use Rattle.ranges.specs.Tables.{kept, room}
 use Rattle.ucd.proofs.Reading.{Sofar}
 use Rattle.ucd.proofs.files.read_lines.Given as goal
 
-abbrev pub invariant-loop-rest : goal.invariant-loop-rest
-invariant-loop-rest g l =
-    Sofar g.P.Property.listed g.P.Property.meant g.P.Property.shared (room l.initial.table) l.bytes l.rest l.number (kept l.initial.table) (kept l.table)
+abbrev pub invariant-loop-i : goal.invariant-loop-i
+invariant-loop-i g l =
+    Sofar g.P.Property.listed g.P.Property.meant g.P.Property.shared (room l.initial.table) (lines l.bytes) (lines_left l.i-iterator.iter) l.count (kept l.initial.table) (kept l.table)
+    × (l.i-iterator.count ≡ l.count)
     × (room l.table ≡ room l.initial.table)
-
-abbrev pub decreases-loop-rest : goal.decreases-loop-rest
-decreases-loop-rest g l = length l.rest

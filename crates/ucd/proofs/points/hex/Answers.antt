@@ -2,8 +2,7 @@ use Rattle.std.proofs.Common.{◌≡◌, ◌+◌, ◌*◌, get_or, arith, ltb-tr
 use Rattle.std.proofs.lemmas.List.{take_rest}
 use Rattle.std.proofs.lemmas.List.Sums.{prefix_len-le-length}
 use Rattle.std.specs.List.{prefix_len}
-use Rattle.ucd.specs.Bytes.{is}
-use Rattle.ucd.specs.declared.kinds.Kind.TheVariants.{Digit}
+use Rattle.ucd.specs.Bytes.{Digit, is}
 use Rattle.ucd.proofs.Digits.{remains_all, remains_more, remains_small, remains_none, no_digit, none_first}
 use Rattle.ucd.proofs.points.hex.Goals as goal
 use Rattle.ucd.proofs.points.hex.Goals.{in_default, in-len1-up+in_default-digit}

@@ -1,0 +1,9 @@
+// What a line lists.
+use ranges::Range;
+
+// A range with its value, and where in the line field 1 begins.
+#[derive(Clone, Copy)]
+pub struct Listing<V> {
+    pub range: Range<V>,
+    pub place: usize,
+}
