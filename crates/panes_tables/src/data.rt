@@ -1,112 +1,144 @@
 // Loads the data files, and tells what they list.
-use crate::files::read_path;
+use crate::read_path;
 use anyhow::anyhow;
 use properties::{Category, GraphemeClass, LineClass, Named, Property, Width, value_of};
 use ranges::{Range, Table};
 use std::alloc::{AllocError, Global};
-use ucd::{Fault, read_file};
-
-pub(crate) const LINE_FILE: &str = "LineBreak.txt";
-
-pub(crate) const GRAPHEME_FILE: &str = "GraphemeBreakProperty.txt";
-
-pub(crate) const CATEGORY_FILE: &str = "DerivedGeneralCategory.txt";
-
-pub(crate) const WIDTH_FILE: &str = "EastAsianWidth.txt";
-
-pub(crate) const PICTOGRAPH_FILE: &str = "emoji-data.txt";
+use std::fmt;
+use ucd::read_file;
 
 // How many ranges a table has room for; the files of Unicode 15.0.0 list some 4,000 at most.
 const ROOM: usize = 8192;
 
-// Free records for a table.
-pub(crate) fn free_records<V: Copy>(heap: Global, value: V) -> Result<Vec<Range<V>>, AllocError> {
-    let mut records = Vec::with_capacity(heap, ROOM)?;
-    for _ in 0..ROOM {
-        records.push(Range {
-            first: 0,
-            last: 0,
-            value,
-        })?;
+// Records for a table of each property.
+#[derive(Drop)]
+pub(crate) struct Records {
+    line: Vec<Range<LineClass>>,
+    grapheme: Vec<Range<GraphemeClass>>,
+    category: Vec<Range<Category>>,
+    width: Vec<Range<Width>>,
+    pictograph: Vec<Range<bool>>,
+}
+
+fn free<V: Copy>(heap: Global, value: V) -> Result<Vec<Range<V>>, AllocError> {
+    let record = Range {
+        first: 0,
+        last: 0,
+        value,
+    };
+    vec![in heap; record; ROOM]
+}
+
+impl Records {
+    pub(crate) fn new(heap: Global) -> Result<Records, AllocError> {
+        Ok(Records {
+            line: free(heap, LineClass::Xx)?,
+            grapheme: free(heap, GraphemeClass::Other)?,
+            category: free(heap, Category::Cn)?,
+            width: free(heap, Width::N)?,
+            pictograph: free(heap, false)?,
+        })
     }
-    Ok(records)
+
+    // Loads the five files of the folder. The faults of all are told before the first ends it.
+    pub(crate) fn load(&mut self, rt: &HostRuntime, folder: &str) -> anyhow::Result<Tables<'_>> {
+        let line = load(rt, folder, "LineBreak.txt", self.line.as_mut_slice());
+        let grapheme = load(
+            rt,
+            folder,
+            "GraphemeBreakProperty.txt",
+            self.grapheme.as_mut_slice(),
+        );
+        let category = load(
+            rt,
+            folder,
+            "DerivedGeneralCategory.txt",
+            self.category.as_mut_slice(),
+        );
+        let width = load(rt, folder, "EastAsianWidth.txt", self.width.as_mut_slice());
+        let pictograph = load(rt, folder, "emoji-data.txt", self.pictograph.as_mut_slice());
+        Ok(Tables {
+            line: line?,
+            grapheme: grapheme?,
+            category: category?,
+            width: width?,
+            pictograph: pictograph?,
+        })
+    }
 }
 
-fn tell_fault(rt: &HostRuntime, folder: &str, name: &str, fault: Fault) -> anyhow::Result<()> {
-    eprintln!(rt; "panes_tables: {folder}/{name}: {fault}")?;
-    Ok(())
+// A data file that was read into a table.
+#[derive(Drop)]
+struct Loaded<'a, P> {
+    name: &'static str,
+    lines: usize,
+    table: Table<'a, P>,
 }
 
-fn read_data(rt: &HostRuntime, folder: &str, name: &str) -> anyhow::Result<Vec<u8>> {
-    let path = format!(in rt.alloc(); "{folder}/{name}")?;
-    read_path(rt, path.as_str())
+impl<'a, P> fmt::Display for Loaded<'a, P> {
+    fn fmt<W: fmt::Write>(&self, f: &mut fmt::Formatter<W>) -> fmt::Result {
+        let name = self.name;
+        let lines = self.lines;
+        let ranges = self.table.len();
+        let covered = self.table.covered();
+        write!(
+            f,
+            "{name}: {lines} lines, {ranges} ranges, {covered} code points"
+        )
+    }
 }
 
-// Reads a data file into a table in these records, and tells how many lines it has. A fault of the file
-// is told before the error comes.
-pub(crate) fn load<'a, P: Property>(
+// Reads a data file into a table in these records. A fault of the file is told before the error comes.
+fn load<'a, P: Property>(
     rt: &HostRuntime,
     folder: &str,
-    name: &str,
+    name: &'static str,
     records: &'a mut [Range<P>],
-) -> anyhow::Result<(Table<'a, P>, usize)> {
-    let bytes = read_data(rt, folder, name)?;
+) -> anyhow::Result<Loaded<'a, P>> {
+    let path = format!(in rt.alloc(); "{folder}/{name}")?;
+    let bytes = read_path(rt, path.as_str())?;
     match read_file(bytes.as_slice(), records) {
-        Ok(loaded) => Ok(loaded),
+        Ok((table, lines)) => Ok(Loaded { name, lines, table }),
         Err(fault) => {
-            tell_fault(rt, folder, name, fault)?;
+            eprintln!(rt; "panes_tables: {path}: {fault}")?;
             Err(anyhow!("nothing was done, since a data file is refused"))
         }
     }
 }
 
-fn tell_table<V>(
-    rt: &HostRuntime,
-    name: &str,
-    lines: usize,
-    table: &Table<'_, V>,
-) -> anyhow::Result<()> {
-    let ranges = table.len();
-    let covered = table.covered();
-    println!(rt; "{name}: {lines} lines, {ranges} ranges, {covered} code points")?;
-    Ok(())
-}
-
 // A table for each property.
 #[derive(Drop)]
 pub(crate) struct Tables<'a> {
-    pub(crate) line: Table<'a, LineClass>,
-    pub(crate) grapheme: Table<'a, GraphemeClass>,
-    pub(crate) category: Table<'a, Category>,
-    pub(crate) width: Table<'a, Width>,
-    pub(crate) pictograph: Table<'a, bool>,
+    line: Loaded<'a, LineClass>,
+    grapheme: Loaded<'a, GraphemeClass>,
+    category: Loaded<'a, Category>,
+    width: Loaded<'a, Width>,
+    pictograph: Loaded<'a, bool>,
 }
 
-// Each file with how many lines it has, in the order of the tables.
-pub(crate) fn tell_tables(
-    rt: &HostRuntime,
-    lines: &[usize; 5],
-    tables: &Tables<'_>,
-) -> anyhow::Result<()> {
-    tell_table(rt, LINE_FILE, lines[0], &tables.line)?;
-    tell_table(rt, GRAPHEME_FILE, lines[1], &tables.grapheme)?;
-    tell_table(rt, CATEGORY_FILE, lines[2], &tables.category)?;
-    tell_table(rt, WIDTH_FILE, lines[3], &tables.width)?;
-    tell_table(rt, PICTOGRAPH_FILE, lines[4], &tables.pictograph)
-}
+impl<'a> Tables<'a> {
+    pub(crate) fn tell(&self, rt: &HostRuntime) -> anyhow::Result<()> {
+        println!(rt; "{}", self.line)?;
+        println!(rt; "{}", self.grapheme)?;
+        println!(rt; "{}", self.category)?;
+        println!(rt; "{}", self.width)?;
+        println!(rt; "{}", self.pictograph)?;
+        Ok(())
+    }
 
-pub(crate) fn tell_code_point(rt: &HostRuntime, tables: &Tables<'_>, c: u32) -> anyhow::Result<()> {
-    let line = value_of(&tables.line, c).name();
-    let grapheme = value_of(&tables.grapheme, c).name();
-    let category = value_of(&tables.category, c).name();
-    let width = value_of(&tables.width, c).name();
-    let pictograph = if value_of(&tables.pictograph, c) {
-        "yes"
-    } else {
-        "no"
-    };
-    println!(rt;
-        "U+{c:04X}: line {line}, grapheme {grapheme}, category {category}, width {width}, pictograph {pictograph}"
-    )?;
-    Ok(())
+    pub(crate) fn tell_code_point(&self, rt: &HostRuntime, c: u32) -> anyhow::Result<()> {
+        let line = value_of(&self.line.table, c).name();
+        let grapheme = value_of(&self.grapheme.table, c).name();
+        let category = value_of(&self.category.table, c).name();
+        let width = value_of(&self.width.table, c).name();
+        let pictograph = if value_of(&self.pictograph.table, c) {
+            "yes"
+        } else {
+            "no"
+        };
+        println!(rt;
+            "U+{c:04X}: line {line}, grapheme {grapheme}, category {category}, width {width}, pictograph {pictograph}"
+        )?;
+        Ok(())
+    }
 }

@@ -3,19 +3,12 @@
 #![tactic(auto)]
 
 mod data;
-mod files;
-mod script;
 
 use anyhow::anyhow;
-use data::{
-    CATEGORY_FILE, GRAPHEME_FILE, LINE_FILE, PICTOGRAPH_FILE, Tables, WIDTH_FILE, free_records,
-    load, tell_code_point, tell_tables,
-};
-use files::{read_input, read_path};
-use properties::{Category, GraphemeClass, LineClass, Width};
-use script::replay_script;
-use std::env;
+use data::Records;
+use replays::{exit_code, read_whole, replay_script};
 use std::process::ExitCode;
+use std::{env, fs};
 use store::TextStore;
 
 const USAGE: &str = "usage: panes_tables [--data DIR] [FILE]
@@ -71,58 +64,33 @@ fn read_task(rt: &HostRuntime) -> anyhow::Result<Task> {
     with_folder(folder, script, words.next())
 }
 
-fn replay(rt: &HostRuntime, folder: &str, script: &[u8]) -> anyhow::Result<()> {
-    let heap = rt.alloc();
-    let mut line = free_records(heap, LineClass::Xx)?;
-    let mut grapheme = free_records(heap, GraphemeClass::Other)?;
-    let mut category = free_records(heap, Category::Cn)?;
-    let mut width = free_records(heap, Width::N)?;
-    let mut pictograph = free_records(heap, false)?;
-    // All are loaded before the first that failed ends the program, so that each fault is told.
-    let line = load(rt, folder, LINE_FILE, line.as_mut_slice());
-    let grapheme = load(rt, folder, GRAPHEME_FILE, grapheme.as_mut_slice());
-    let category = load(rt, folder, CATEGORY_FILE, category.as_mut_slice());
-    let width = load(rt, folder, WIDTH_FILE, width.as_mut_slice());
-    let pictograph = load(rt, folder, PICTOGRAPH_FILE, pictograph.as_mut_slice());
-    let (line, line_count) = line?;
-    let (grapheme, grapheme_count) = grapheme?;
-    let (category, category_count) = category?;
-    let (width, width_count) = width?;
-    let (pictograph, pictograph_count) = pictograph?;
-    let lines = [
-        line_count,
-        grapheme_count,
-        category_count,
-        width_count,
-        pictograph_count,
-    ];
-    let tables = Tables {
-        line,
-        grapheme,
-        category,
-        width,
-        pictograph,
-    };
-    tell_tables(rt, &lines, &tables)?;
-    let text = replay_script(rt, script)?;
-    for place in 0..text.len() {
-        tell_code_point(rt, &tables, text.at(place))?;
-    }
-    Ok(())
+pub(crate) fn read_path(rt: &HostRuntime, path: &str) -> anyhow::Result<Vec<u8>> {
+    fs::read(rt, path).map_err(|error| anyhow!("{path}: {error}"))
 }
 
-fn read_text(rt: &HostRuntime, script: Option<String>) -> anyhow::Result<Vec<u8>> {
+fn read_script(rt: &HostRuntime, script: Option<String>) -> anyhow::Result<Vec<u8>> {
     match script {
         Some(path) => read_path(rt, path.as_str()),
-        None => read_input(rt),
+        None => Ok(read_whole(rt.alloc(), &mut rt.stdin())?),
     }
+}
+
+fn replay(rt: &HostRuntime, folder: &str, script: &[u8]) -> anyhow::Result<()> {
+    let mut records = Records::new(rt.alloc())?;
+    let tables = records.load(rt, folder)?;
+    tables.tell(rt)?;
+    let text = replay_script(rt, rt.alloc(), script)?;
+    for place in 0..text.len() {
+        tables.tell_code_point(rt, text.at(place))?;
+    }
+    Ok(())
 }
 
 fn run(rt: &HostRuntime) -> anyhow::Result<()> {
     match read_task(rt)? {
         Task::Help => println!(rt; "{USAGE}")?,
         Task::Replay(folder, script) => {
-            let script = read_text(rt, script)?;
+            let script = read_script(rt, script)?;
             replay(rt, folder.as_str(), script.as_slice())?;
         }
     }
@@ -130,11 +98,5 @@ fn run(rt: &HostRuntime) -> anyhow::Result<()> {
 }
 
 fn main(rt: HostRuntime) -> ExitCode {
-    match run(&rt) {
-        Ok(()) => ExitCode::SUCCESS,
-        Err(e) => {
-            let _ = eprintln!(rt; "panes_tables: {e}");
-            ExitCode::FAILURE
-        }
-    }
+    exit_code(&rt, "panes_tables", run(&rt))
 }
