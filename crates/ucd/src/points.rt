@@ -32,7 +32,7 @@ fn demand_point(text: &[u8]) -> Result<(), Reason>
     ensures { MatchResult result (λ _. pointed text.now ≡ true) (λ why. (pointed text.now ≡ false) × (why ≡ bad)) }
 {
     let digits = leading_digits(text);
-    if digits < 4 || digits > 6 {
+    if !(4..=6).contains(&digits) {
         return Err(Reason::BadRange);
     }
     Ok(())
