@@ -2,7 +2,7 @@
 use Rattle.std.proofs.Common.{◌≡◌, ℕ, Bool, true, false, cond, ltb, leb, ◌⊎◌, List, [], ◌∷◌, length, IfOk, Some, None, Ok, Err, Option, Result, sym, refl, ap, ◌∙◌, inl, inr, ⊎_elim, arith}
 use Rattle.ranges.specs.Rows.{Added, holds, lookup, shares, shares_any}
 use Rattle.ranges.specs.declared.range.Range.{Range}
-use Rattle.std.proofs.lemmas.Bool.{and_from, and_parts, both_ways, cases_Bool, cond-true, cond-false, le-leb, leb-true, or_parts}
+use Rattle.std.proofs.lemmas.Bool.{and_from, and_parts, both_ways, cases_Bool, cond-true, cond-false, le-leb, leb-true, or_parts, true≢false}
 use Rattle.ucd.specs.Entries.{entry_of}
 use Rattle.ucd.specs.Files.{Answered, Grown, full_fault, shared_fault}
 use Rattle.ucd.specs.declared.faults.Fault.{Fault}
@@ -24,7 +24,7 @@ both_hold a b c in-a in_b =
 
 -- a range that shares nothing with the rows holds no code point that has a value
 pub unshared : {V : Type 0} (rows : List (Range V)) (range : Range V) (c : ℕ) (v : V) → lookup rows c ≡ Some v → shares_any rows range ≡ false → holds range c ≡ false
-unshared [] range c v found apart = let z : ◌≡◌ {A = ℕ} 0 1 = cc in absurd (omega arith)
+unshared [] range c v found apart = absurd (true≢false cc)
 unshared (row ∷ rows) range c v found apart =
     let parts = or_parts (shares row range) (shares_any rows range) apart in
     by_case (holds row c) refl found parts.0 (λ behind. unshared rows range c v behind parts.1)
@@ -53,7 +53,7 @@ grown_by_range {V} meant shared line listing before after entry apart values = r
 
 -- a range that is kept shares nothing
 kept_apart : {V : Type 0} (shared free : Bool) (x y : V) → cond shared (Some x) (cond free None (Some y)) ≡ None → shared ≡ false
-kept_apart true free x y e = let z : ◌≡◌ {A = ℕ} 0 1 = cc in absurd (omega arith)
+kept_apart true free x y e = absurd (true≢false cc)
 kept_apart false free x y e = refl
 
 -- what is known of a line's range is known of the line
@@ -71,4 +71,4 @@ grown_by_nothing {V} meant shared line rows entry = record {
 }
   where
     none : (c : ℕ) (v : V) → ListsValue meant shared line c v → lookup rows c ≡ Some v
-    none c v (listing, lists, here, is-value) = let z : ◌≡◌ {A = ℕ} 0 1 = cc in absurd (omega arith)
+    none c v (listing, lists, here, is-value) = absurd (true≢false cc)

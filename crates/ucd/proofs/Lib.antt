@@ -1,4 +1,3 @@
-mod Counts
 mod Layouts
 mod Digits
 mod Growth

@@ -1,7 +1,7 @@
 -- What field 1 writes. Assumes nothing.
 use Rattle.std.proofs.Common.{◌≡◌, ℕ, ◌≤◌, Bool, true, false, cond, ◌&&◌, eqb, leb, List, [], ◌∷◌, ◌++◌, length, Ok, Err, Result, sym, refl, ap, ◌∙◌, subst, inl, inr, append-nil, arith}
 use Rattle.std.proofs.lemmas.List.{drop_at, nil_from_length, take_at}
-use Rattle.std.proofs.lemmas.Bool.{and_from, and_parts, cond-true, eq-eqb, eqb-true, le-leb, leb-true}
+use Rattle.std.proofs.lemmas.Bool.{and_from, and_parts, cond-true, eq-eqb, eqb-true, le-leb, leb-true, true≢false}
 use Rattle.std.specs.Str.Parse.{digits_value}
 use Rattle.std.specs.List.{prefix_len}
 use Rattle.ucd.specs.Bytes.{Digit, is}
@@ -14,7 +14,7 @@ use Rattle.ucd.proofs.Spans.{leading_run, split}
 -- an answer that is no fault passed the test
 pub passed : {X E : Type 0} (b : Bool) (x y : X) (e : E) → cond b (Ok x) (Err e) ≡ Ok y → (b ≡ true) × (x ≡ y)
 passed true x y e same = (refl, cc)
-passed false x y e same = let z : ◌≡◌ {A = ℕ} 0 1 = cc in absurd (omega arith)
+passed false x y e same = absurd (true≢false cc)
 
 -- digits, and what follows them
 pub digits_run : (ds rest : List ℕ) → Of Digit ds → Breaks Digit rest → (point_of (ds ++ rest) ≡ digits_value 16 ds) × (behind (ds ++ rest) ≡ rest)
@@ -63,7 +63,7 @@ alone s last e =
 -- what follows the first code point
 ended : (s : List ℕ) (first last : ℕ) (rest : List ℕ) → Leads s first rest → end_of first rest ≡ Ok last → Spells s first last
 ended s first last [] h e = inl (leads_alone s first [] refl h, (let same : last ≡ first = cc in same))
-ended s first last (a ∷ []) h e = let z : ◌≡◌ {A = ℕ} 0 1 = cc in absurd (omega arith)
+ended s first last (a ∷ []) h e = absurd (true≢false cc)
 ended s first last (a ∷ b ∷ es) h e = by_case (eqb a 46 && eqb b 46) refl e
   where
     by_case : (v : Bool) → (eqb a 46 && eqb b 46) ≡ v → cond v (last_point es) (Err BadRange) ≡ Ok last → Spells s first last
@@ -71,7 +71,7 @@ ended s first last (a ∷ b ∷ es) h e = by_case (eqb a 46 && eqb b 46) refl e
         let two = and_parts (eqb a 46) (eqb b 46) stops in
         let joined : s ≡ h.ds ++ (46 ∷ (46 ∷ es)) = h.whole ∙ (λ i. h.ds ++ (eqb-true a 46 two.0 i ∷ (eqb-true b 46 two.1 i ∷ es))) in
         inr (h.ds, es, joined, h.writes, alone es last e)
-    by_case false stops e = let z : ◌≡◌ {A = ℕ} 0 1 = cc in absurd (omega arith)
+    by_case false stops e = absurd (true≢false cc)
 
 -- a range that was read is what the field writes, and in order
 pub spelled : (s : List ℕ) (ends : ℕ × ℕ) → range_of s ≡ Ok ends → Spells s ends.0 ends.1 × (ends.0 ≤ ends.1) × (ends.1 ≤ 1114111)
@@ -82,11 +82,11 @@ spelled s ends e = by_case (pointed s) refl e
         let told = passed (leb (point_of s) last && leb last 1114111) (point_of s, last) ends BadPoint e in
         let tests = and_parts (leb (point_of s) last) (leb last 1114111) told.0 in
         subst (λ (x : ℕ × ℕ). Spells s x.0 x.1 × (x.0 ≤ x.1) × (x.1 ≤ 1114111)) told.1 (ended s (point_of s) last (behind s) (leads s four-to-six) is-end, leb-true (point_of s) last tests.0, leb-true last 1114111 tests.1)
-    ordered (Err why) is-end four-to-six e = let z : ◌≡◌ {A = ℕ} 0 1 = cc in absurd (omega arith)
+    ordered (Err why) is-end four-to-six e = absurd (true≢false cc)
 
     by_case : (v : Bool) → pointed s ≡ v → cond v (in_order (point_of s) (end_of (point_of s) (behind s))) (Err BadRange) ≡ Ok ends → Spells s ends.0 ends.1 × (ends.0 ≤ ends.1) × (ends.1 ≤ 1114111)
     by_case true four-to-six e = ordered (end_of (point_of s) (behind s)) refl four-to-six e
-    by_case false other e = let z : ◌≡◌ {A = ℕ} 0 1 = cc in absurd (omega arith)
+    by_case false other e = absurd (true≢false cc)
 
 -- and what the field writes in order is read
 last_read : (es : List ℕ) (last : ℕ) → Writes es last → last_point es ≡ Ok last

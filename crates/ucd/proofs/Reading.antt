@@ -3,7 +3,7 @@ use Rattle.std.proofs.Common.{◌≡◌, ℕ, suc, ◌+◌, Bool, ◌⊎◌, Lis
 use Rattle.ranges.specs.Rows.{lookup}
 use Rattle.ranges.specs.declared.range.Range.{Range}
 use Rattle.std.proofs.lemmas.List.{get_or_append_left, get_or_at}
-use Rattle.std.proofs.lemmas.Bool.{cases_lt}
+use Rattle.std.proofs.lemmas.Bool.{cases_lt, true≢false}
 use Rattle.ucd.specs.Entries.{entry_of}
 use Rattle.ucd.specs.Files.{fault_in, rows_with, SomeLine, Grown, Reads, ReadAll, Stopped, Loaded}
 use Rattle.ucd.specs.Written.{Tells}
@@ -47,14 +47,6 @@ module _ {V : Type 0} (listed : V → Option (List ℕ)) (meant : List ℕ → O
     only = λ c v found. ⊎_elim (λ there. ⊎_elim inl (λ some. inr (earlier_line ls line c v some)) (first.only c v there)) (λ here. inr (last_line ls line c v here)) (next.only c v found);
   }
 
-  -- no line lists nothing
-  grown_none : (rows : List (Range V)) → Grown (SomeLine listed []) rows rows
-  grown_none rows = record {
-    stays = λ c v found. found;
-    gains = λ c v some. absurd (omega (arith, some.1));
-    only = λ c v found. inl found;
-  }
-
   -- so many lines were read, and these are left
   pub record Sofar (room : ℕ) (ls left : List (List ℕ)) (number : ℕ) (before after : List (Range V)) : Type 0 where
     pub seen : List (List ℕ)
@@ -62,9 +54,6 @@ module _ {V : Type 0} (listed : V → Option (List ℕ)) (meant : List ℕ → O
     pub count : number ≡ length seen
     pub read : Reads meant shared room 1 seen before after
     pub values : Grown (SomeLine listed seen) before after
-
-  pub sofar_none : (room : ℕ) (ls left : List (List ℕ)) (rows : List (Range V)) → left ≡ ls → Sofar room ls left 0 rows rows
-  sofar_none room ls left rows all = record { seen = []; split = sym all; count = refl; read = refl; values = grown_none rows }
 
   pub sofar_more : (room : ℕ) (ls left behind : List (List ℕ)) (line : List ℕ) (number i : ℕ) (before middle after : List (Range V)) → Sofar room ls left number before middle → left ≡ line ∷ behind → i ≡ number → fault_in room middle (i + 1) (entry_of meant shared line) ≡ None → after ≡ rows_with middle (entry_of meant shared line) → Grown (Tells listed line) middle after → Sofar room ls behind (i + 1) before after
   sofar_more room ls left behind line number i before middle after h first here taken rows grown = record {
@@ -102,4 +91,4 @@ module _ {V : Type 0} (listed : V → Option (List ℕ)) (meant : List ℕ → O
   }
     where
       unlisted : (c : ℕ) (v : V) → ◌≡◌ {A = Option V} None (Some v) → ⊥
-      unlisted c v e = let z : ◌≡◌ {A = ℕ} 0 1 = cc in omega arith
+      unlisted c v e = true≢false cc

@@ -3,6 +3,7 @@ use Rattle.std.proofs.Common.{◌≡◌, ℕ, ◌+◌, ◌-◌, ◌<◌, ◌≤�
 use Rattle.std.proofs.ByRecursion.{All-append, All-weaker}
 use Rattle.std.proofs.lemmas.List.{drop_at, get_or_at, take_all, take_at, take_more, nil_from_length}
 use Rattle.std.proofs.lemmas.Bool.{and_from, and_parts, cases_Bool, cond-true, cond-false, eq-eqb, eqb-true, eqb-false, le-ltb, lt-ltb, ltb-true, ltb-false, ne_eqb, or_left, true≢false}
+use Rattle.std.proofs.Math.Seq.{drop-append-add}
 use Rattle.std.specs.List.{prefix_len, AllByRecursion}
 use Rattle.ucd.specs.Bytes.{Kind, Uncommented, InField, Blank, is, stripped}
 use Rattle.ucd.specs.Lines.{Part, blank, listing, unreturned, core_of, field, whole, two_fields, parts_at, layout}
@@ -42,7 +43,7 @@ closed true s = by_case (eqb (get_or s (length s - 1) 0) 13) refl
           parts = sym (take_all (length s - 1 + 1) s (omega arith)) ∙ take_more s (length s - 1) 0 (omega arith) ∙ ap (λ b. take (length s - 1) s ++ (b ∷ [])) last;
           core = ap (λ v. stripped (cond v (take (length s - 1) s) s)) e;
           returned = inr (refl, refl);
-          bare = λ _ none. let z : ◌≡◌ {A = ℕ} 0 1 = cc in absurd (omega arith);
+          bare = λ _ none. absurd (true≢false cc);
         }
       where
         filled : (t : List ℕ) → get_or t (length t - 1) 0 ≡ 13 → 0 < length t
@@ -83,11 +84,6 @@ semicolon b e = by_case (eqb b 59) refl e
     by_case true same e = eqb-true b 59 same
     by_case false other e = absurd (true≢false e)
 
--- a run and one byte more
-pub behind_run : (front rest : List ℕ) (b : ℕ) → drop (length front + 1) (front ++ (b ∷ rest)) ≡ rest
-behind_run front rest b =
-    ap (drop (length front + 1)) (sym (append_assoc front (b ∷ []) rest)) ∙ drop_at (front ++ (b ∷ [])) rest (length front + 1) (length-append front (b ∷ []))
-
 parted : (closing : Bool) (s : List ℕ) (comment r v c : Part) → two_fields closing s comment ≡ Ok (listing r v c) → Parted closing s r v
 parted closing s comment r v c e = from h.rest h.whole h.breaks
   where
@@ -105,7 +101,7 @@ parted closing s comment r v c e = from h.rest h.whole h.breaks
     from (b ∷ rest) parts breaks =
         let is_first = at (b ∷ rest) parts breaks in
         let is_front : take (length h.run) s ≡ h.run = ap (take (length h.run)) parts ∙ take_at h.run (b ∷ rest) (length h.run) refl in
-        let is_rest : drop (length h.run + 1) s ≡ rest = ap (drop (length h.run + 1)) parts ∙ behind_run h.run rest b in
+        let is_rest : drop (length h.run + 1) s ≡ rest = ap (drop (length h.run + 1)) parts ∙ drop-append-add h.run (b ∷ rest) 1 in
         let told = passed (ltb (length h.run) (length s) && eqb (prefix_len (is InField) rest) (length rest)) (listing (field false 0 h.run) (field closing (length h.run + 1) rest) comment) (listing r v c) (whole FieldCount) (sym (at_fields closing s comment h.run rest (length h.run) is_first is_front is_rest) ∙ e) in
         let all = (and_parts (ltb (length h.run) (length s)) (eqb (prefix_len (is InField) rest) (length rest)) told.0).1 in
         let same_range : field false 0 h.run ≡ r = cc told.1 in
@@ -175,13 +171,13 @@ listing_written line r v c e = by_length (ltb 1024 (length line)) refl e
     h = split Uncommented line
 
     by_core : (b : Bool) → cond b (Ok (blank (record { text = h.rest; start = length h.run }))) (two_fields (eqb (length h.run) (length line)) h.run (record { text = h.rest; start = length h.run })) ≡ Ok (listing r v c) → Written line r.text v.text
-    by_core true e = let z : ◌≡◌ {A = ℕ} 0 1 = cc in absurd (omega arith)
+    by_core true e = absurd (true≢false cc)
     by_core false e =
         let p = parted (eqb (length h.run) (length line)) h.run (record { text = h.rest; start = length h.run }) r v c e in
         assembled line h.run h.rest r v h.whole h.of h.breaks p (closed (eqb (length h.run) (length line)) p.rest)
 
     by_length : (b : Bool) → ltb 1024 (length line) ≡ b → cond b (Err (whole LongLine)) (parts_at line (prefix_len (is Uncommented) line)) ≡ Ok (listing r v c) → (length line ≤ 1024) × Written line r.text v.text
-    by_length true long e = let z : ◌≡◌ {A = ℕ} 0 1 = cc in absurd (omega arith)
+    by_length true long e = absurd (true≢false cc)
     by_length false short e =
         (ltb-false 1024 (length line) short, by_core (eqb (length (core_of (eqb (length h.run) (length line)) h.run)) 0) (sym (at_parts line h.run h.rest h.whole h.of h.breaks) ∙ e))
 
@@ -230,7 +226,7 @@ written_listing line range value short w =
     let first_at : length w.first ≡ prefix_len (is InField) before = sym (leading_run InField w.first (59 ∷ rest) w.no_parting.0 refl) in
     let rest_all : prefix_len (is InField) rest ≡ length rest = ap (prefix_len (is InField)) (sym (append-nil rest)) ∙ leading_run InField rest [] rest_in_field tt in
     let within : length w.first < length before = omega (arith, length-append w.first (59 ∷ rest)) in
-    let laid : layout line ≡ Ok (listing (field false 0 w.first) (field closing (length w.first + 1) rest) comment) = cond-false _ _ _ (le-ltb 1024 (length line) short) ∙ at_parts line before w.comment parts uncommented w.comment_begins ∙ cond-false _ _ _ (heavy closing before w.first rest refl) ∙ at_fields closing before comment w.first rest (length w.first) first_at (take_at w.first (59 ∷ rest) (length w.first) refl) (behind_run w.first rest 59) ∙ cond-true _ _ _ (and_from _ _ (lt-ltb (length w.first) (length before) within) (eq-eqb (prefix_len (is InField) rest) (length rest) rest_all)) in
+    let laid : layout line ≡ Ok (listing (field false 0 w.first) (field closing (length w.first + 1) rest) comment) = cond-false _ _ _ (le-ltb 1024 (length line) short) ∙ at_parts line before w.comment parts uncommented w.comment_begins ∙ cond-false _ _ _ (heavy closing before w.first rest refl) ∙ at_fields closing before comment w.first rest (length w.first) first_at (take_at w.first (59 ∷ rest) (length w.first) refl) (drop-append-add w.first (59 ∷ rest) 1) ∙ cond-true _ _ _ (and_from _ _ (lt-ltb (length w.first) (length before) within) (eq-eqb (prefix_len (is InField) rest) (length rest) rest_all)) in
     let returned : (w.return ≡ []) ⊎ ((w.return ≡ 13 ∷ []) × (closing ≡ true)) = ⊎_elim inl (λ x. inr (x.0, closes_line line before w.comment parts x.1)) w.returned in
     let core = core_value w.second w.return closing returned (λ closes. w.unreturned (no_comment_left line before w.comment parts closes)) in (
       field false 0 w.first,

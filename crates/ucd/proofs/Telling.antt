@@ -1,7 +1,7 @@
 -- What a line lists is what it is written to list. Assumes nothing.
 use Rattle.std.proofs.Common.{◌≡◌, ℕ, ◌≤◌, Bool, true, false, cond, ltb, leb, List, length, Some, None, Ok, Err, Option, Result, refl, ap, ◌∙◌, inl, inr, ⊎_elim, arith}
 use Rattle.ranges.specs.declared.range.Range.{Range}
-use Rattle.std.proofs.lemmas.Bool.{and_from, and_parts, le-leb, leb-true, ltb-false}
+use Rattle.std.proofs.lemmas.Bool.{and_from, and_parts, le-leb, leb-true, ltb-false, true≢false}
 use Rattle.std.specs.List.{prefix_len}
 use Rattle.ucd.specs.Bytes.{Uncommented, is}
 use Rattle.ucd.specs.Entries.{blamed, known, value_field, with_value, with_range, with_parts, entry_of}
@@ -44,24 +44,24 @@ module _ {V : Type 0} (meant : List ℕ → Option V) (shared : Bool) where
       by_value r v c x None laid ends named e = by_shared shared e
         where
           by_shared : (b : Bool) → with_value {V = V} r.start x (known b v.start None) ≡ Ok (Some kept) → Source line kept.range
-          by_shared true e = let z : ◌≡◌ {A = ℕ} 0 1 = cc in absurd (omega arith)
-          by_shared false e = let z : ◌≡◌ {A = ℕ} 0 1 = cc in absurd (omega arith)
+          by_shared true e = absurd (true≢false cc)
+          by_shared false e = absurd (true≢false cc)
 
       by_range : (r v c : Part) (x : Result (ℕ × ℕ) Reason) → layout line ≡ Ok (listing r v c) → range_of r.text ≡ x → with_range r.start (blamed r.start x) (value_field meant shared v) ≡ Ok (Some kept) → Source line kept.range
       by_range r v c (Ok x) laid ends e = by_value r v c x (meant v.text) laid ends refl e
-      by_range r v c (Err why) laid ends e = let z : ◌≡◌ {A = ℕ} 0 1 = cc in absurd (omega arith)
+      by_range r v c (Err why) laid ends e = absurd (true≢false cc)
 
       by_layout : (x : Result Layout LineFault) → layout line ≡ x → with_parts meant shared x ≡ Ok (Some kept) → Source line kept.range
-      by_layout (Ok (blank c)) laid e = let z : ◌≡◌ {A = ℕ} 0 1 = cc in absurd (omega arith)
+      by_layout (Ok (blank c)) laid e = absurd (true≢false cc)
       by_layout (Ok (listing r v c)) laid e = by_range r v c (range_of r.text) laid refl e
-      by_layout (Err fault) laid e = let z : ◌≡◌ {A = ℕ} 0 1 = cc in absurd (omega arith)
+      by_layout (Err fault) laid e = absurd (true≢false cc)
 
   -- a line that was read is not too long
   short_enough : (line : List ℕ) (entry : Option (Listing V)) → entry_of meant shared line ≡ Ok entry → length line ≤ 1024
   short_enough line entry e = by_case (ltb 1024 (length line)) refl e
     where
       by_case : (b : Bool) → ltb 1024 (length line) ≡ b → with_parts meant shared (cond b (Err (whole LongLine)) (parts_at line (prefix_len (is Uncommented) line))) ≡ Ok entry → length line ≤ 1024
-      by_case true long e = let z : ◌≡◌ {A = ℕ} 0 1 = cc in absurd (omega arith)
+      by_case true long e = absurd (true≢false cc)
       by_case false short e = ltb-false 1024 (length line) short
 
   module _ (listed : V → Option (List ℕ)) where

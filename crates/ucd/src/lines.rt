@@ -10,7 +10,7 @@ use crate::pieces::Parts;
 use properties::Property;
 use ranges::Range;
 
-// What a line lists, which is given without its line feed; nothing where none is kept.
+// What a line lists, which is given without its line feed, or nothing.
 pub fn read_line<P: Property>(line: &[u8]) -> Result<Option<Listing<P>>, LineFault>
     ensures { result ≡ entry_of P.Property.meant P.Property.shared line.now }
 {

@@ -1,24 +1,15 @@
 // Reads field 1: one code point, or two joined by "..".
 ghost use Rattle.std.specs.Prelude.{◌≡◌, true, false, MatchResult};
+ghost use Rattle.std.specs.List.{prefix_len};
+ghost use Rattle.ucd.specs.Bytes.{Digit as digit, is};
 ghost use Rattle.ucd.specs.Points.{digit_of, pointed, point_of, behind, last_point, end_of, range_of};
 ghost use Rattle.ucd.specs.declared.faults.Reason.TheVariants.{BadRange as bad};
 
 use crate::faults::Reason;
-use crate::runs::is_digit;
 
 const LAST_CODE_POINT: u32 = 0x10FFFF;
 
-// Refuses a text that does not begin with 4 to 6 digits.
-fn demand_point(text: &[u8]) -> Result<(), Reason>
-    ensures { MatchResult result (λ _. pointed text.now ≡ true) (λ why. (pointed text.now ≡ false) × (why ≡ bad)) }
-{
-    let digits = text.iter().take_while(|b| is_digit(**b)).count();
-    if digits < 4 || digits > 6 {
-        return Err(Reason::BadRange);
-    }
-    Ok(())
-}
-
+// The value of a digit of base sixteen, which has no small letters.
 fn digit(b: u8) -> Option<u32>
     ensures { result ≡ digit_of b }
 {
@@ -27,6 +18,24 @@ fn digit(b: u8) -> Option<u32>
         b'A'..=b'F' => Some((b - b'A') as u32 + 10),
         _ => None,
     }
+}
+
+// How many digits lead.
+fn leading_digits(text: &[u8]) -> usize
+    ensures { result ≡ prefix_len (is digit) text.now }
+{
+    text.iter().take_while(|b| digit(**b).is_some()).count()
+}
+
+// Refuses a text that does not begin with 4 to 6 digits.
+fn demand_point(text: &[u8]) -> Result<(), Reason>
+    ensures { MatchResult result (λ _. pointed text.now ≡ true) (λ why. (pointed text.now ≡ false) × (why ≡ bad)) }
+{
+    let digits = leading_digits(text);
+    if !(4..=6).contains(&digits) {
+        return Err(Reason::BadRange);
+    }
+    Ok(())
 }
 
 // The number that the digits at the start write, and the rest.

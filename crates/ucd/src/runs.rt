@@ -1,19 +1,12 @@
 // Runs of bytes of one kind, and what ends them.
 ghost use Rattle.std.specs.Prelude.{◌≡◌, ◌≤◌, ◌==◌, length, position};
 ghost use Rattle.std.specs.List.{prefix_len, suffix_len};
-ghost use Rattle.ucd.specs.Bytes.{Blank as blank, Digit as digit, is, stripped};
+ghost use Rattle.ucd.specs.Bytes.{Blank as blank, is, stripped};
 
 fn is_blank(b: u8) -> bool
     ensures { result ≡ is blank b }
 {
     b == b' ' || b == b'\t'
-}
-
-// Digits of base sixteen have no small letters.
-pub(crate) fn is_digit(b: u8) -> bool
-    ensures { result ≡ is digit b }
-{
-    b >= b'0' && b <= b'9' || b >= b'A' && b <= b'F'
 }
 
 // Where the byte stands first.

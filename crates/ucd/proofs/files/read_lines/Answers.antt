@@ -1,17 +1,12 @@
-use Rattle.std.proofs.Common.{rules, ◌≡◌, ◌+◌, take, Some, None, Err, sym, refl, ap, ◌∙◌, subst}
+use Rattle.std.proofs.Common.{◌≡◌, ◌+◌, take, Some, None, Err, sym, ap, ◌∙◌, subst}
 use Rattle.cutting.specs.Left.{lines_left}
 use Rattle.cutting.specs.Pieces.{lines}
 use Rattle.ranges.specs.Tables.{kept, room}
 use Rattle.std.proofs.lemmas.Result.{err_from_is_err_and}
 use Rattle.ucd.specs.Entries.{entry_of}
 use Rattle.ucd.specs.Files.{fault_in, Stopped, Goes}
-use Rattle.ucd.proofs.Reading.{sofar_none, sofar_more, sofar_stopped}
+use Rattle.ucd.proofs.Reading.{sofar_more, sofar_stopped}
 use Rattle.ucd.proofs.files.read_lines.Goals as goal
-
-pub loop-i-init : goal.loop-i-init
-loop-i-init g c =
-    let table = c.args.table.now in
-    (sofar_none g.P.Property.listed g.P.Property.meant g.P.Property.shared (room table) (lines c.args.bytes.now) (lines_left c.into_iter-i-iterator.result.iter) (kept table) (search rules), search rules, refl)
 
 pub loop-i-preserved : goal.loop-i-preserved
 loop-i-preserved g c =
