@@ -3,10 +3,11 @@ ghost use Rattle.std.specs.Prelude.{◌≡◌, ◌==◌, position};
 ghost use Rattle.std.specs.List.{after_first, before_first};
 ghost use Rattle.cutting.specs.Pieces.{statement};
 
-fn first_place(bytes: &[u8], end: u8) -> Option<usize>
-    ensures { result ≡ position (λ b. b == end) bytes.now }
+// Where the byte stands first.
+pub fn first_place(bytes: &[u8], byte: u8) -> Option<usize>
+    ensures { result ≡ position (λ b. b == byte) bytes.now }
 {
-    bytes.iter().position(|b| *b == end)
+    bytes.iter().position(|b| *b == byte)
 }
 
 // What stands before the first of these bytes, and what follows it; all and nothing where there is none.

@@ -5,6 +5,6 @@ mod cut;
 mod lines;
 mod words;
 
-pub use cut::statement;
+pub use cut::{first_place, statement};
 pub use lines::Lines;
 pub use words::Words;

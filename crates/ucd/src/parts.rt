@@ -5,8 +5,8 @@ ghost use Rattle.ucd.specs.Written.{PartsStand};
 
 use crate::faults::{Field, Finder, LineFault, Reason};
 use crate::pieces::{Parts, Piece};
-use crate::runs::first_place;
 use crate::stretches::Stretch;
+use cutting::first_place;
 
 // No line may have more bytes.
 const LONGEST_LINE: usize = 1024;

@@ -1,5 +1,5 @@
-// Runs of bytes of one kind, and what ends them.
-ghost use Rattle.std.specs.Prelude.{◌≡◌, ◌≤◌, ◌==◌, length, position};
+// Runs of bytes of one kind.
+ghost use Rattle.std.specs.Prelude.{◌≡◌, ◌≤◌, length};
 ghost use Rattle.std.specs.List.{prefix_len, suffix_len};
 ghost use Rattle.ucd.specs.Bytes.{Blank as blank, is, stripped};
 
@@ -7,13 +7,6 @@ fn is_blank(b: u8) -> bool
     ensures { result ≡ is blank b }
 {
     b == b' ' || b == b'\t'
-}
-
-// Where the byte stands first.
-pub(crate) fn first_place(bytes: &[u8], byte: u8) -> Option<usize>
-    ensures { result ≡ position (λ b. b == byte) bytes.now }
-{
-    bytes.iter().position(|b| *b == byte)
 }
 
 // How many blanks lead.

@@ -3,7 +3,8 @@ ghost use Rattle.std.specs.Prelude.{◌≡◌, ◌+◌, ◌^◌, ◌<◌, length
 ghost use Rattle.ucd.specs.Lines.{core_of, field, seen};
 
 use crate::pieces::Piece;
-use crate::runs::{first_place, leading_blanks, strip};
+use crate::runs::{leading_blanks, strip};
+use cutting::first_place;
 
 // Bytes of a line, and where in the line they begin.
 #[derive(Clone, Copy)]
