@@ -1,5 +1,5 @@
 -- Words, and the numbers that they write. Assumes nothing.
-use Rattle.std.proofs.Common.{◌≡◌, ℕ, ◌^◌, ◌<◌, ◌≤◌, Bool, true, false, cond, ◌&&◌, ltb, List, [], ◌∷◌, get_or, Some, None, IsUtf8, IsAscii, Decides, Option, refl, ap, arith, rules}
+use Rattle.std.proofs.Common.{◌≡◌, ℕ, ◌^◌, ◌<◌, ◌≤◌, Bool, true, false, cond, ◌&&◌, ltb, List, [], ◌∷◌, Some, None, IsUtf8, IsAscii, Decides, Option, refl, ap, arith, rules}
 use lib.Utf8.{scalar}
 use Rattle.std.proofs.lemmas.Str.Ascii.{IsAscii-nil, IsAscii-cons}
 use Rattle.std.proofs.lemmas.Str.{IsUtf8-from_ascii}
@@ -19,12 +19,6 @@ digits_ascii base (c ∷ cs) small d = IsAscii-cons c cs (digit_ascii c base sma
 
 pub numeral_utf8 : (base : ℕ) (cs : List ℕ) → base ≤ 36 → IsNumeral base cs → IsUtf8 cs
 numeral_utf8 base cs small n = IsUtf8-from_ascii cs (digits_ascii base cs small n.1)
-
-pub no_plus : (base : ℕ) (cs : List ℕ) → base ≤ 36 → get_or cs 0 0 ≡ 43 → IsNumeral base cs → ⊥
-no_plus base [] small plus n = omega (arith, n.0)
-no_plus base (c ∷ cs) small plus n =
-    let digit : digit_value 43 < base = rw plus at n.1.0 in
-    omega (arith, digit)
 
 -- the definitions as tests
 digits_decides : (base : ℕ) (cs : List ℕ) → Decides (digits base cs) (AllDigits base cs)
