@@ -16,7 +16,7 @@ pub fn text_of<S: TextStore>(heap: Global, store: &S) -> Result<String, AllocErr
     Ok(out)
 }
 
-// Whether two stores hold the same text.
+// Whether two stores hold the same text. A `for` and no `all`, whose goal stayed open as a whole.
 pub fn same_text<S: TextStore, T: TextStore>(one: &S, other: &T) -> bool
     ensures { Decides result (S.TextStore.text one.now ≡ T.TextStore.text other.now) }
 {

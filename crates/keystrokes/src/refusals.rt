@@ -17,6 +17,7 @@ pub enum Refusal {
 pub type Outcome = Result<(), Refusal>;
 
 impl Refusal {
+    // The number of the refusal. A method and no `From`, so that a call says which number it asks for.
     pub fn number(self) -> u8
         ensures { result ≡ refusal_number self }
     {

@@ -5,6 +5,7 @@ ghost use Rattle.properties.specs.Names.{called};
 pub trait Named: Copy {
     ghost spelling: { Self → List ℕ };
 
+    // The name in the data file, which is compared byte by byte: so it is text that is there, and not printed.
     fn name(self) -> &'static str
         ensures { result.now ≡ spelling self };
 }

@@ -44,7 +44,7 @@ impl<'a, V> Table<'a, V> {
         self.records.len()
     }
 
-    // How many code points the ranges hold together.
+    // How many code points the ranges hold together. A `for` and no `sum`, of which four goals stayed open.
     pub fn covered(&self) -> u64
         ensures sum { result ≡ covered (rows self.now) }
         ensures bound { result ≤ 2 ^ 32 }

@@ -7,7 +7,7 @@ use std::error::Error;
 use std::fmt;
 
 impl Reason {
-    // The number of the refusal.
+    // The number of the refusal. A method and no `From`, so that a call says which number it asks for.
     pub fn number(self) -> u8
         ensures { result ≡ reason_number self }
     {
@@ -51,7 +51,7 @@ impl fmt::Display for Reason {
 }
 
 impl Field {
-    // The number of the field, and 0 for the whole line.
+    // The number of the field, and 0 for the whole line. A method, for the same reason.
     pub fn number(self) -> u8
         ensures { result ≡ field_number self }
     {
