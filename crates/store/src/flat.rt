@@ -16,6 +16,8 @@ pub struct FlatStore {
     ghost within: { used ≤ capacity_of (vec_len cells) },
 }
 
+// Like the calls of a gap store: one type for both would be generic over what stands beside the array, for three
+// calls of a line.
 impl FlatStore {
     ghost use Rattle.store.specs.Stores.{flat_text, flat_room};
 
