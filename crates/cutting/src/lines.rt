@@ -4,9 +4,9 @@ ghost use Rattle.std.specs.Iterator.{YieldsFirstRef, item_count};
 ghost use Rattle.cutting.specs.Left.{lines_left};
 ghost use Rattle.cutting.specs.Pieces.{lines};
 
-use crate::cut::cut;
+use crate::places::cut;
 
-// The lines of the rest. A line goes up to a line feed, which it lacks, or to the end.
+// The lines that are left. A line goes up to a line feed, which it lacks, or to the end.
 #[derive(Clone, Copy)]
 pub struct Lines<'a> {
     rest: &'a [u8],

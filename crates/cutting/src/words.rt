@@ -5,7 +5,7 @@ ghost use Rattle.std.specs.Iterator.{YieldsFirstRef, item_count};
 ghost use Rattle.cutting.specs.Left.{words_left};
 ghost use Rattle.cutting.specs.Pieces.{Blank as blank, ends, words};
 
-// The words of the rest, which are parted by one blank or more.
+// The words that are left, which are parted by one blank or more.
 #[derive(Clone, Copy)]
 pub struct Words<'a> {
     rest: &'a [u8],

@@ -3,3 +3,4 @@ pub mod Shown
 pub mod Numerals
 pub mod Script
 pub mod Sentences
+pub mod Errors

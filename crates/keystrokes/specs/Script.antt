@@ -26,7 +26,7 @@ points n (w ∷ ws) = point n (code_point w) (points (suc n) ws)
 abbrev pub Spells : Result (Vec ℕ Global) LineError → Result (List ℕ) ℕ → Type 0
 Spells (Ok put) x = x ≡ Ok (vec_items put)
 Spells (Err (Fault f)) x = (n : ℕ) × (f ≡ BadCodePoint n) × (x ≡ Err n)
-Spells (Err OutOfMemory) x = Unit {0}
+Spells (Err (OutOfMemory e)) x = Unit {0}
 
 -- nothing, a keystroke as its place, its count to take and its code points, or why there is none
 pub data Reading : Type 0 where
@@ -64,7 +64,7 @@ abbrev pub Says : ℕ → Result (Option Keystroke) LineError → Reading → Ty
 Says number (Ok None) x = x ≡ nothing
 Says number (Ok (Some k)) x = (k.line ≡ number) × (x ≡ press k.place k.take (vec_items k.put))
 Says number (Err (Fault f)) x = x ≡ fault f
-Says number (Err OutOfMemory) x = Unit {0}
+Says number (Err (OutOfMemory e)) x = Unit {0}
 
 -- what one reading adds to the keystrokes and the bad lines
 abbrev pub Adds : ℕ → Reading → List Keystroke → List BadLine → Type 0

@@ -1,9 +1,10 @@
 // Why a line of a script holds no keystroke, and what a person is told of it.
 ghost use Rattle.std.specs.Prelude.{◌≡◌, Some};
 ghost use Rattle.keystrokes.specs.Sentences.{fault_sentence};
-ghost use Rattle.keystrokes.specs.declared.faults.LineError.TheVariants.{Fault as fault_of_line, OutOfMemory as out_of_memory};
+ghost use Rattle.keystrokes.specs.Errors.{IsOutOfMemory};
+ghost use Rattle.keystrokes.specs.declared.faults.LineError.TheVariants.{Fault as fault_of_line};
 
-use std::alloc::AllocFailed;
+use std::alloc::{AllocError, AllocFailed};
 use std::error::Error;
 use std::fmt;
 
@@ -42,7 +43,7 @@ impl Error for LineFault {}
 #[derive(Clone, Copy)]
 pub(crate) enum LineError {
     Fault(LineFault),
-    OutOfMemory,
+    OutOfMemory(AllocError),
 }
 
 impl From<LineFault> for LineError {
@@ -54,9 +55,9 @@ impl From<LineFault> for LineError {
 }
 
 impl<T: Drop> From<AllocFailed<T>> for LineError {
-    ghost from_gives = { λ _ error. error ≡ out_of_memory };
+    ghost from_gives = { λ _ error. IsOutOfMemory error };
 
-    fn from(_failed: AllocFailed<T>) -> LineError {
-        LineError::OutOfMemory
+    fn from(failed: AllocFailed<T>) -> LineError {
+        LineError::OutOfMemory(failed.into())
     }
 }

@@ -60,7 +60,7 @@ fn note_line(
             line: number,
             fault,
         })?,
-        Err(LineError::OutOfMemory) => return Err(AllocError),
+        Err(LineError::OutOfMemory(error)) => return Err(error),
     }
     Ok(())
 }
@@ -75,6 +75,7 @@ pub fn read_script(heap: Global, bytes: &[u8]) -> Result<Script, AllocError>
         keys: Vec::new(heap),
         bad: Vec::new(heap),
     };
+    // The number is what the script counts.
     for line in Lines::new(bytes) {
         let number = script.lines + 1;
         note_line(heap, &mut script, number, line)?;

@@ -3,7 +3,7 @@ use crate::faults::LineFault;
 use crate::strokes::Keystroke;
 
 // A line that is not blank and holds no keystroke.
-#[derive(Clone, Copy)]
+#[derive(Clone, Copy, PartialEq, Eq, Debug)]
 pub struct BadLine {
     pub line: usize,
     pub fault: LineFault,

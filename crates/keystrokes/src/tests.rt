@@ -1,6 +1,6 @@
 // Keystrokes at the edges of a store, and lines that hold none.
 use crate::typing::press;
-use crate::{Keystroke, Refusal, read_script, text_of};
+use crate::{Keystroke, Refusal, read_script, sentence_of, text_of};
 use std::alloc::Global;
 use std::test::Fail;
 use store::{FlatStore, TextStore};
@@ -27,7 +27,9 @@ fn refusals(rt: HostRuntime) -> Result<(), Fail> {
         press(&mut store, &key(heap, 2, 1, &[67, 68, 69])?).map_err(Refusal::number),
         Err(10)
     );
-    assert_eq!(rt; press(&mut store, &key(heap, 1, 1, &[0xD800])?), Ok(()));
+    let made = press(&mut store, &key(heap, 1, 1, &[0xD800])?);
+    assert_eq!(rt; made, Ok(()));
+    assert_eq!(rt; sentence_of(made), "done");
     assert_eq!(rt; text_of(heap, &store)?.as_str(), "A\u{FFFD}");
     Ok(())
 }

@@ -1,4 +1,4 @@
-// Keystrokes on any text store.
+// Keystrokes on any text store. Each call says that the room stays, which compares two stores and is no fact of one.
 ghost use Rattle.std.specs.Prelude.{◌≡◌, ◌≤◌, [], length, IfOk, vec_capacity, MatchResult};
 ghost use Rattle.keystrokes.specs.Typing.{Pressed, Typed, TypedOnce};
 

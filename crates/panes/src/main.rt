@@ -2,9 +2,9 @@
 #![tactic(auto)]
 
 use anyhow::anyhow;
-use replays::{exit_code, read_whole, replay_script};
+use replays::{exit_code, read_input, replay_script};
+use std::env;
 use std::process::ExitCode;
-use std::{env, fs};
 
 const USAGE: &str = "usage: panes [FILE]
 
@@ -38,19 +38,13 @@ fn read_task(rt: &HostRuntime) -> anyhow::Result<Task> {
     Ok(Task::Replay(Some(word)))
 }
 
-fn read_script(rt: &HostRuntime, script: Option<String>) -> anyhow::Result<Vec<u8>> {
-    match script {
-        Some(path) => fs::read(rt, path.as_str()).map_err(|error| anyhow!("{path}: {error}")),
-        None => Ok(read_whole(rt.alloc(), &mut rt.stdin())?),
-    }
-}
-
 fn run(rt: &HostRuntime) -> anyhow::Result<()> {
     match read_task(rt)? {
         Task::Help => println!(rt; "{USAGE}")?,
         Task::Replay(script) => {
-            let bytes = read_script(rt, script)?;
-            replay_script(rt, rt.alloc(), bytes.as_slice())?;
+            let path = script.as_ref().map(|path| path.as_str());
+            let script = read_input(rt, path, &mut rt.stdin())?;
+            replay_script(rt, rt.alloc(), script.as_slice())?;
         }
     }
     Ok(())

@@ -1,10 +1,9 @@
 // Loads the data files, and tells what they list.
-use crate::read_path;
 use anyhow::anyhow;
 use properties::{Category, GraphemeClass, LineClass, Named, Property, Width, value_of};
 use ranges::{Range, Table};
 use std::alloc::{AllocError, Global};
-use std::fmt;
+use std::{fmt, fs};
 use ucd::read_file;
 
 // How many ranges a table has room for; the files of Unicode 15.0.0 list some 4,000 at most.
@@ -20,7 +19,8 @@ pub(crate) struct Records {
     pictograph: Vec<Range<bool>>,
 }
 
-fn free<V: Copy>(heap: Global, value: V) -> Result<Vec<Range<V>>, AllocError> {
+// Records of which none holds a range.
+fn free_records<V: Copy>(heap: Global, value: V) -> Result<Vec<Range<V>>, AllocError> {
     let record = Range {
         first: 0,
         last: 0,
@@ -32,31 +32,31 @@ fn free<V: Copy>(heap: Global, value: V) -> Result<Vec<Range<V>>, AllocError> {
 impl Records {
     pub(crate) fn new(heap: Global) -> Result<Records, AllocError> {
         Ok(Records {
-            line: free(heap, LineClass::Xx)?,
-            grapheme: free(heap, GraphemeClass::Other)?,
-            category: free(heap, Category::Cn)?,
-            width: free(heap, Width::N)?,
-            pictograph: free(heap, false)?,
+            line: free_records(heap, LineClass::Xx)?,
+            grapheme: free_records(heap, GraphemeClass::Other)?,
+            category: free_records(heap, Category::Cn)?,
+            width: free_records(heap, Width::N)?,
+            pictograph: free_records(heap, false)?,
         })
     }
 
     // Loads the five files of the folder. The faults of all are told before the first ends it.
     pub(crate) fn load(&mut self, rt: &HostRuntime, folder: &str) -> anyhow::Result<Tables<'_>> {
-        let line = load(rt, folder, "LineBreak.txt", self.line.as_mut_slice());
-        let grapheme = load(
+        let line = load_file(rt, folder, "LineBreak.txt", self.line.as_mut_slice());
+        let grapheme = load_file(
             rt,
             folder,
             "GraphemeBreakProperty.txt",
             self.grapheme.as_mut_slice(),
         );
-        let category = load(
+        let category = load_file(
             rt,
             folder,
             "DerivedGeneralCategory.txt",
             self.category.as_mut_slice(),
         );
-        let width = load(rt, folder, "EastAsianWidth.txt", self.width.as_mut_slice());
-        let pictograph = load(rt, folder, "emoji-data.txt", self.pictograph.as_mut_slice());
+        let width = load_file(rt, folder, "EastAsianWidth.txt", self.width.as_mut_slice());
+        let pictograph = load_file(rt, folder, "emoji-data.txt", self.pictograph.as_mut_slice());
         Ok(Tables {
             line: line?,
             grapheme: grapheme?,
@@ -89,14 +89,14 @@ impl<'a, P> fmt::Display for Loaded<'a, P> {
 }
 
 // Reads a data file into a table in these records. A fault of the file is told before the error comes.
-fn load<'a, P: Property>(
+fn load_file<'a, P: Property>(
     rt: &HostRuntime,
     folder: &str,
     name: &'static str,
     records: &'a mut [Range<P>],
 ) -> anyhow::Result<Loaded<'a, P>> {
     let path = format!(in rt.alloc(); "{folder}/{name}")?;
-    let bytes = read_path(rt, path.as_str())?;
+    let bytes = fs::read(rt, path.as_str()).map_err(|error| anyhow!("{path}: {error}"))?;
     match read_file(bytes.as_slice(), records) {
         Ok((table, lines)) => Ok(Loaded { name, lines, table }),
         Err(fault) => {

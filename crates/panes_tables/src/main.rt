@@ -6,9 +6,9 @@ mod data;
 
 use anyhow::anyhow;
 use data::Records;
-use replays::{exit_code, read_whole, replay_script};
+use replays::{exit_code, read_input, replay_script};
+use std::env;
 use std::process::ExitCode;
-use std::{env, fs};
 use store::TextStore;
 
 const USAGE: &str = "usage: panes_tables [--data DIR] [FILE]
@@ -64,17 +64,6 @@ fn read_task(rt: &HostRuntime) -> anyhow::Result<Task> {
     with_folder(folder, script, words.next())
 }
 
-pub(crate) fn read_path(rt: &HostRuntime, path: &str) -> anyhow::Result<Vec<u8>> {
-    fs::read(rt, path).map_err(|error| anyhow!("{path}: {error}"))
-}
-
-fn read_script(rt: &HostRuntime, script: Option<String>) -> anyhow::Result<Vec<u8>> {
-    match script {
-        Some(path) => read_path(rt, path.as_str()),
-        None => Ok(read_whole(rt.alloc(), &mut rt.stdin())?),
-    }
-}
-
 fn replay(rt: &HostRuntime, folder: &str, script: &[u8]) -> anyhow::Result<()> {
     let mut records = Records::new(rt.alloc())?;
     let tables = records.load(rt, folder)?;
@@ -90,7 +79,8 @@ fn run(rt: &HostRuntime) -> anyhow::Result<()> {
     match read_task(rt)? {
         Task::Help => println!(rt; "{USAGE}")?,
         Task::Replay(folder, script) => {
-            let script = read_script(rt, script)?;
+            let path = script.as_ref().map(|path| path.as_str());
+            let script = read_input(rt, path, &mut rt.stdin())?;
             replay(rt, folder.as_str(), script.as_slice())?;
         }
     }

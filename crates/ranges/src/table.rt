@@ -79,7 +79,7 @@ impl<'a, V: Copy> Table<'a, V> {
             .map(|row| row.value)
     }
 
-    // The place of one more range, of which there may be `room`, or why it can't be put there.
+    // The place of one more range, or why it can't be put there; there is room for `room` ranges.
     pub(crate) fn place_for(&self, room: usize, range: Range<V>) -> Result<usize, Refusal>
         ensures told { Told room (rows self.now) range result }
         ensures place { IfOk result (λ p. p ≡ place_in range.first (rows self.now)) }
@@ -108,7 +108,7 @@ impl<'a, V: Copy> Table<'a, V> {
     }
 }
 
-// How many records are in order, from the first on.
+// How many records are in order, from the first on. A `for`, since each is compared with what the one before left.
 fn ordered<V>(records: &[Range<V>]) -> usize
     ensures within { result ≤ length records.now }
     ensures front { take result records.now ≡ front records.now }

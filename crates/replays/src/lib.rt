@@ -5,7 +5,7 @@
 mod program;
 mod replay;
 
-pub use program::{exit_code, read_whole};
+pub use program::{exit_code, read_input};
 pub use replay::replay_script;
 
 #[cfg(test)]

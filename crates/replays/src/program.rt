@@ -1,17 +1,25 @@
-// What the programs have in common: reading all of their input, and how they end.
-ghost use Rattle.std.specs.Prelude.{◌≡◌, IfOk, IfSome, OnErr, OnOk};
+// What the programs have in common: reading their input, and how they end.
+ghost use Rattle.std.specs.Prelude.{◌≡◌, IfOk, IfSome, IsNone, OnErr, OnOk};
 ghost use Rattle.std.specs.Process.{exit_status};
 
-use std::alloc::Global;
-use std::io;
+use anyhow::anyhow;
+use std::fs;
 use std::io::Read;
 use std::process::ExitCode;
+use std::rt::Files;
 
-// What the input gives up to its end.
-pub fn read_whole<I: Read>(heap: Global, input: &mut I) -> io::Result<Vec<u8>>
-    ensures { IfOk result (λ bytes. IfSome (I.remaining input.old) (λ given. bytes.items ≡ given)) }
+// What the file of this path holds or, where none is named, what the input gives up to its end.
+pub fn read_input<R: Files + AllocGlobal, I: Read>(
+    rt: &R,
+    path: Option<&str>,
+    input: &mut I,
+) -> anyhow::Result<Vec<u8>>
+    ensures { IsNone path.entry → IfOk result (λ bytes. IfSome (I.remaining input.old) (λ given. bytes.items ≡ given)) }
 {
-    let mut bytes = Vec::new(heap);
+    if let Some(path) = path {
+        return fs::read(rt, path).map_err(|error| anyhow!("{path}: {error}"));
+    }
+    let mut bytes = Vec::new(rt.alloc());
     input.read_to_end(&mut bytes)?;
     Ok(bytes)
 }

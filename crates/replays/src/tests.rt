@@ -1,5 +1,5 @@
 // What a script leaves, and what is read of an input.
-use crate::{read_whole, replay_script};
+use crate::{read_input, replay_script};
 use std::test::Fail;
 use store::TextStore;
 
@@ -13,7 +13,7 @@ fn replays(rt: HostRuntime) -> Result<(), Fail> {
 #[test]
 fn reads_all(rt: HostRuntime) -> Result<(), Fail> {
     let mut input = b"two\nlines".as_slice();
-    let bytes = read_whole(rt.alloc(), &mut input)?;
+    let bytes = read_input(&rt, None, &mut input)?;
     assert_eq!(rt; bytes.as_slice(), b"two\nlines".as_slice());
     Ok(())
 }

@@ -1,5 +1,5 @@
 // The edges of both stores, by one script for any store.
-use crate::{FlatStore, GapStore, TextStore};
+use crate::{FlatStore, Gap, GapStore, TextStore};
 use std::alloc::{AllocError, Global};
 use std::process::Abort;
 use std::test::Fail;
@@ -65,7 +65,7 @@ fn gap_store(rt: HostRuntime) -> Result<(), Fail> {
     let mut store = GapStore::new(array(rt.alloc(), 4)?);
     at_four(&rt, &mut store);
     let gap = store.gap();
-    assert_eq!(rt; (gap.start, gap.end), (0, 1));
+    assert_eq!(rt; gap, Gap { start: 0, end: 1 });
     let cells = store.into_cells();
     assert!(rt; cells.len() == 4);
     assert_eq!(rt; (cells[1], cells[2], cells[3]), (66, 90, 68));

@@ -1,4 +1,6 @@
-// Reads a data file into a table, line by line.
+// Reads a data file into a table, line by line. The clauses name what they need of `Property` one by one, since the
+// definitions stand below that interface; and each call that changes a table says that its room stays, which compares
+// two tables and is no fact of one.
 ghost use Rattle.std.specs.Prelude.{◌≡◌, ◌≤◌, length, Ok, Some, MatchResult, OnOk};
 ghost use Rattle.cutting.specs.Pieces.{lines, Lined};
 ghost use Rattle.ranges.specs.Rows.{Added, placed};
@@ -74,6 +76,7 @@ fn read_lines<P: Property>(bytes: &[u8], table: &mut Filling<'_, P>) -> Result<u
     ensures goes { Goes P.Property.listed P.Property.meant P.Property.shared (room table.old) (lines bytes.now) (kept table.old) (kept table.new) result }
     ensures same_room { room table.new ≡ room table.old }
 {
+    // The answer, beside the place.
     let mut count = 0;
     for (i, line) in Lines::new(bytes).enumerate() {
         count = i + 1;

@@ -2,7 +2,7 @@
 use ranges::Range;
 
 // A range with its value, and where in the line field 1 begins.
-#[derive(Clone, Copy)]
+#[derive(Clone, Copy, PartialEq, Eq, Debug)]
 pub struct Listing<V> {
     pub range: Range<V>,
     pub place: usize,

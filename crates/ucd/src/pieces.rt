@@ -7,8 +7,8 @@ pub struct Piece<'a> {
     pub place: usize,
 }
 
-// What a line holds: a case each, as the rules hand the parts of a line up. A comment goes from '#' to the
-// line's end, and is empty where there is none.
+// What a line holds, an enum that borrows from it (docs/DECISIONS.md). A comment goes from '#' to the line's end,
+// and is empty where there is none.
 #[derive(Clone, Copy)]
 pub enum Parts<'a> {
     Blank {

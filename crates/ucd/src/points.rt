@@ -38,7 +38,8 @@ fn demand_point(text: &[u8]) -> Result<(), Reason>
     Ok(())
 }
 
-// The number that the digits at the start write, and the rest.
+// The number that the digits at the start write, and the rest. It goes on by slice patterns, as field 1 is taken
+// apart throughout (docs/DECISIONS.md).
 fn hex(text: &[u8]) -> (u32, &[u8])
     requires { pointed text.now ≡ true }
     ensures number { result.0 ≡ point_of text.now }

@@ -76,14 +76,6 @@ impl Finder {
     }
 }
 
-impl fmt::Display for Finder {
-    ghost output = { λ finder. Some (finder_name finder) };
-
-    fn fmt<W: fmt::Write>(&self, f: &mut fmt::Formatter<W>) -> fmt::Result {
-        f.write_str(self.name())
-    }
-}
-
 impl fmt::Display for Fault {
     ghost output = { λ fault. Some (fault_text fault) };
 

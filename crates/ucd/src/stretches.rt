@@ -6,7 +6,8 @@ use crate::pieces::Piece;
 use crate::runs::{leading_blanks, strip};
 use cutting::first_place;
 
-// Bytes of a line, and where in the line they begin.
+// Bytes of a line that may hold a field. It is no `Piece` with a flag, since its place is bounded, and each use
+// would go through the piece.
 #[derive(Clone, Copy)]
 pub(crate) struct Stretch<'a> {
     pub(crate) bytes: &'a [u8],

@@ -23,6 +23,7 @@ pub struct GapStore {
     ghost within: { gap.start + (vec_len cells - gap.end) ≤ capacity_limit },
 }
 
+// Like the calls of a flat store, as is said there.
 impl GapStore {
     ghost use Rattle.store.specs.Stores.{gap_text, gap_room};
 

@@ -1,4 +1,4 @@
-// Cuts a row of bytes at the first byte of a kind.
+// Cuts a row of bytes where a byte stands first.
 ghost use Rattle.std.specs.Prelude.{◌≡◌, ◌==◌, position};
 ghost use Rattle.std.specs.List.{after_first, before_first};
 ghost use Rattle.cutting.specs.Pieces.{statement};
@@ -10,8 +10,8 @@ pub fn first_place(bytes: &[u8], byte: u8) -> Option<usize>
     bytes.iter().position(|b| *b == byte)
 }
 
-// What stands before the first of these bytes, and what follows it; all and nothing where there is none.
-pub(crate) fn cut(bytes: &[u8], end: u8) -> (&[u8], &[u8])
+// What stands before the first `end`, and what follows it; all and nothing where there is none.
+pub fn cut(bytes: &[u8], end: u8) -> (&[u8], &[u8])
     ensures front { result.0.now ≡ before_first (λ b. b == end) bytes.now }
     ensures rest { result.1.now ≡ after_first (λ b. b == end) bytes.now }
 {
