@@ -36,7 +36,8 @@ fn press_all<S: TextStore>(store: &mut S, keys: &[Keystroke], outcomes: &mut Vec
 
 // Makes the keystrokes in order on two stores of any kinds, and tells what came of each. Capacity,
 // keystrokes and text settle that: where the stores are alike before, they are alike after. Want of
-// memory is found before the first keystroke, and leaves both stores as they were.
+// memory is found before the first keystroke, and leaves both stores as they were. The outcomes come beside the
+// keystrokes, which are lent, and not in pairs with copies of them.
 pub fn replay_on_both<S: TextStore, T: TextStore>(
     heap: Global,
     one: &mut S,

@@ -1,4 +1,5 @@
-// Reads the two fields of a line, and says where in the line a fault is.
+// Reads the two fields of a line, and says where in the line a fault is. (What the clauses need of `Property` is named
+// one by one, as in files.rt.)
 ghost use Rattle.std.specs.Prelude.{◌≡◌};
 ghost use Rattle.ucd.specs.Entries.{blame, range_field, value_field};
 ghost use Rattle.ucd.specs.Lines.{seen};

@@ -1,4 +1,5 @@
-// Reads a line: what it lists of a property.
+// Reads a line: what it lists of a property. (What the clause needs of `Property` is named one by one, as in
+// files.rt.)
 ghost use Rattle.std.specs.Prelude.{◌≡◌};
 ghost use Rattle.ucd.specs.Entries.{entry_of};
 
