@@ -1,14 +1,10 @@
 -- Rows of bytes cut into pieces: a script into lines, a line into words. Assumes nothing.
 use Rattle.std.specs.Prelude.{◌≡◌, ℕ, ◌<◌, Bool, cond, ◌||◌, ◌⊎◌, List, [], ◌∷◌, ◌++◌, length, ◌==◌, ◌≢◌, slice_index}
 use Rattle.std.specs.List.{AllByRecursion}
+pub use Rattle.cutting.specs.declared.stops.Stop.{Stop}
+pub use Rattle.cutting.specs.declared.stops.Stop.TheVariants.{Newline, Hash, Blank}
 
--- what ends a piece: a line feed a line, '#' a statement, and a space, a tab or a carriage return a word
-pub data Stop : Type 0 where
-  Newline : Stop
-  Hash : Stop
-  Blank : Stop
-
--- whether a byte ends a piece
+-- whether a byte ends a piece: a line feed a line, '#' a statement, and a space, a tab or a carriage return a word
 abbrev pub ends : Stop → ℕ → Bool
 ends Newline b = b == 10
 ends Hash b = b == 35
@@ -20,9 +16,12 @@ onto b [] = (b ∷ []) ∷ []
 onto b (p ∷ ps) = (b ∷ p) ∷ ps
 
 -- the pieces of a row of bytes: each goes up to a byte that ends it, which it lacks, or to the row's end
+abbrev pub pieces_by : (ℕ → Bool) → List ℕ → List (List ℕ)
+pieces_by end [] = []
+pieces_by end (b ∷ bs) = cond (end b) ([] ∷ pieces_by end bs) (onto b (pieces_by end bs))
+
 abbrev pub pieces : Stop → List ℕ → List (List ℕ)
-pieces stop [] = []
-pieces stop (b ∷ bs) = cond (ends stop b) ([] ∷ pieces stop bs) (onto b (pieces stop bs))
+pieces stop bytes = pieces_by (ends stop) bytes
 
 -- a line ends at a line feed
 abbrev pub lines : List ℕ → List (List ℕ)
@@ -66,3 +65,9 @@ filled ((b ∷ bs) ∷ ps) = (b ∷ bs) ∷ filled ps
 -- words are parted by one blank or more
 abbrev pub words : List ℕ → List (List ℕ)
 words bytes = filled (pieces Blank bytes)
+
+-- the first word of a text and what follows it; an empty word where the text has none
+pub record Begins (text word rest : List ℕ) : Type 0 where
+  pub some : 0 < length word → words text ≡ word ∷ words rest
+  pub none : length word ≡ 0 → words text ≡ []
+  pub shorter : 0 < length word → length rest < length text

@@ -1,7 +1,9 @@
 // Cuts a row of bytes where a byte stands first.
-ghost use Rattle.std.specs.Prelude.{◌≡◌, ◌==◌, position};
-ghost use Rattle.std.specs.List.{after_first, before_first};
-ghost use Rattle.cutting.specs.Pieces.{statement};
+ghost use Rattle.std.specs.Prelude.{◌≡◌, ◌<◌, ◌≤◌, ◌∷◌, ◌==◌, length, position};
+ghost use Rattle.std.specs.List.{after_first, before_first, position_or_len};
+ghost use Rattle.cutting.specs.Pieces.{first, pieces_by, statement};
+
+use crate::endings::Ending;
 
 // Where the byte stands first.
 pub fn first_place(bytes: &[u8], byte: u8) -> Option<usize>
@@ -10,14 +12,27 @@ pub fn first_place(bytes: &[u8], byte: u8) -> Option<usize>
     bytes.iter().position(|b| *b == byte)
 }
 
-// What stands before the first `end`, and what follows it; all and nothing where there is none.
-pub fn cut(bytes: &[u8], end: u8) -> (&[u8], &[u8])
-    ensures front { result.0.now ≡ before_first (λ b. b == end) bytes.now }
-    ensures rest { result.1.now ≡ after_first (λ b. b == end) bytes.now }
+// How many bytes stand in front of the first that ends a piece.
+fn piece_len<E: Ending>(bytes: &[u8], end: E) -> usize
+    ensures run { result ≡ position_or_len (E.Ending.is_end end) bytes.now }
+    ensures within { result ≤ length bytes.now }
 {
-    match first_place(bytes, end) {
-        Some(i) => (&bytes[..i], &bytes[i + 1..]),
-        None => (bytes, &[]),
+    bytes.iter().take_while(|b| !end.is_end(**b)).count()
+}
+
+// The first piece, and what follows the byte that ends it; all and nothing where none does.
+#[tactic(auto, using(crate::proofs::Cuts::first_piece, crate::proofs::Cuts::pieces_first))]
+pub fn cut<E: Ending>(bytes: &[u8], end: E) -> (&[u8], &[u8])
+    ensures front { result.0.now ≡ before_first (E.Ending.is_end end) bytes.now }
+    ensures rest { result.1.now ≡ after_first (E.Ending.is_end end) bytes.now }
+    ensures piece { first (pieces_by (E.Ending.is_end end) bytes.now) ≡ result.0.now }
+    ensures others { 0 < length bytes.now → pieces_by (E.Ending.is_end end) bytes.now ≡ result.0.now ∷ pieces_by (E.Ending.is_end end) result.1.now }
+    ensures shorter { 0 < length bytes.now → length result.1.now < length bytes.now }
+{
+    let (piece, behind) = bytes.split_at(piece_len(bytes, end));
+    match behind {
+        [_, rest @ ..] => (piece, rest),
+        [] => (piece, &[]),
     }
 }
 

@@ -1,9 +1,12 @@
 // The words of a row of bytes, one after the other.
 ghost use Rattle.std.specs.Prelude.{◌≡◌, ◌≤◌, length};
-ghost use Rattle.std.specs.List.{position_or_len, prefix_len};
+ghost use Rattle.std.specs.List.{prefix_len};
 ghost use Rattle.std.specs.Iterator.{YieldsFirstRef, item_count};
 ghost use Rattle.cutting.specs.Left.{words_left};
-ghost use Rattle.cutting.specs.Pieces.{Blank as blank, ends, words};
+ghost use Rattle.cutting.specs.Pieces.{Begins, Blank as blank, ends, words};
+
+use crate::places::cut;
+use crate::stops::Stop;
 
 // The words that are left, which are parted by one blank or more.
 #[derive(Clone, Copy)]
@@ -32,14 +35,22 @@ impl<'a> Iterator for Words<'a> {
         if text.is_empty() {
             return None;
         }
-        let (word, behind) = text.split_at(word_len(text));
+        let (word, behind) = cut(text, Stop::Blank);
         self.rest = behind;
         Some(word)
     }
 }
 
+// The first word, and what follows the blank that ends it; an empty word where there is none. For one who goes on with
+// the bytes behind a word, which `Words` keeps to itself.
+pub fn next_word(text: &[u8]) -> (&[u8], &[u8])
+    ensures { Begins text.now result.0.now result.1.now }
+{
+    cut(&text[blanks_len(text)..], Stop::Blank)
+}
+
 // Whether the byte is a space, a tab or a carriage return.
-fn is_blank(b: u8) -> bool
+pub(crate) fn is_blank(b: u8) -> bool
     ensures { result ≡ ends blank b }
 {
     b == b' ' || b == b'\t' || b == b'\r'
@@ -51,12 +62,4 @@ fn blanks_len(bytes: &[u8]) -> usize
     ensures within { result ≤ length bytes.now }
 {
     bytes.iter().take_while(|b| is_blank(**b)).count()
-}
-
-// How many bytes stand in front of the first blank.
-fn word_len(bytes: &[u8]) -> usize
-    ensures run { result ≡ position_or_len (ends blank) bytes.now }
-    ensures within { result ≤ length bytes.now }
-{
-    bytes.iter().take_while(|b| !is_blank(**b)).count()
 }

@@ -28,6 +28,15 @@ lookup_below c low (row ∷ rows) up below =
     let behind = lookup_below c (suc row.last) rows p.2 (omega arith) in
     grind (arith, nat_tests)
 
+-- nothing is listed behind the rows
+pub lookup_past : {V : Type 0} (c : ℕ) (rows : List (Range V)) → length rows ≤ place c rows → lookup rows c ≡ None
+lookup_past c [] past = refl
+lookup_past c (row ∷ rows) past =
+    cond_both (ltb row.last c) (suc (place c rows)) 0 (λ p. suc (length rows) ≤ p → lookup (row ∷ rows) c ≡ None)
+    (λ t behind. lookup_on c row rows (holds_not_above row c (ltb-true _ _ t)) ∙ lookup_past c rows (omega arith))
+    (λ _ behind. absurd (omega arith))
+    past
+
 -- of rows whose first ends at the code point or above, only that one can hold it
 pub lookup_first : {V : Type 0} (c : ℕ) (row : Range V) (rows : List (Range V)) → row.first ≤ row.last → ascending_from (suc row.last) rows ≡ true → c ≤ row.last → lookup (row ∷ rows) c ≡ cond (leb row.first c) (Some row.value) None
 lookup_first c row rows forward up ends =

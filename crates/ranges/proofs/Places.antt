@@ -1,5 +1,6 @@
 -- The place of a code point among rows, and the row there. Assumes nothing.
-use Rattle.std.proofs.Common.{◌≡◌, ℕ, zero, suc, ◌+◌, ◌≤◌, true, false, cond, ltb, List, [], ◌∷◌, length, Option, Some, None, slice_get, sym, refl, ap, ◌∙◌, arith}
+use Rattle.std.proofs.Common.{◌≡◌, ℕ, zero, suc, ◌+◌, ◌<◌, ◌≤◌, true, false, cond, ltb, List, [], ◌∷◌, length, get_or, Option, Some, None, slice_get, sym, refl, ap, ◌∙◌, arith}
+use Rattle.std.proofs.lemmas.Bool.{cond_both, ltb-true, ltb-false}
 use Rattle.std.proofs.lemmas.List.Sums.{prefix_len-le-length, prefix_len_is}
 use Rattle.std.proofs.lemmas.Option.{slice_get_past, slice_get_read}
 use Rattle.std.specs.List.{prefix_len}
@@ -39,6 +40,26 @@ place_is c [] p within point = omega arith
 place_is c (row ∷ rows) p within point =
     sym (prefix_len_is (λ x. ltb x.last c) (row ∷ rows) p row within (λ k before. point.0 k row (omega arith) before) (λ inside. point.1 p row (omega arith) inside))
     ∙ sym (place_prefix c (row ∷ rows))
+
+-- a row that ends at the code point or above is not before the place
+pub place_at_most : {V : Type 0} (c : ℕ) (rows : List (Range V)) (k : ℕ) (d : Range V) → k < length rows → c ≤ (get_or rows k d).last → place c rows ≤ k
+place_at_most c [] k d inside ends = omega arith
+place_at_most c (row ∷ rows) zero d inside ends =
+    cond_both (ltb row.last c) (suc (place c rows)) 0 (λ p. p ≤ 0) (λ t. omega (arith, ltb-true _ _ t)) (λ _. omega arith)
+place_at_most c (row ∷ rows) (suc k) d inside ends =
+    let more = place_at_most c rows k d (omega arith) ends in
+    cond_both (ltb row.last c) (suc (place c rows)) 0 (λ p. p ≤ suc k) (λ _. omega arith) (λ _. omega arith)
+
+-- an ascending row that ends below the code point is before the place
+pub place_above : {V : Type 0} (c low : ℕ) (rows : List (Range V)) (k : ℕ) (d : Range V) → ascending_from low rows ≡ true → k < length rows → (get_or rows k d).last < c → k < place c rows
+place_above c low [] k d up inside ends = absurd (omega arith)
+place_above c low (row ∷ rows) zero d up inside ends =
+    cond_both (ltb row.last c) (suc (place c rows)) 0 (λ p. 0 < p) (λ _. omega arith) (λ f. omega (arith, ltb-false _ _ f))
+place_above c low (row ∷ rows) (suc k) d up inside ends =
+    let up_on = (ascending_parts low row rows up).2 in
+    let more = place_above c (suc row.last) rows k d up_on (omega arith) ends in
+    let here = ascending_at (suc row.last) rows k d up_on (omega arith) in
+    cond_both (ltb row.last c) (suc (place c rows)) 0 (λ p. suc k < p) (λ _. omega arith) (λ f. omega (arith, ltb-false _ _ f))
 
 -- what `get` lends is the row at the place
 pub got : {X : Type 0} (xs : List X) (k : ℕ) (r : Option _) → IsItemAt xs k r → option_copied r ≡ slice_get xs k

@@ -1,5 +1,5 @@
 -- Whether a range has a code point in common with ascending rows. Assumes nothing.
-use Rattle.std.proofs.Common.{◌≡◌, ℕ, suc, ◌<◌, ◌≤◌, Bool, true, false, ◌||◌, ltb, leb, List, [], ◌∷◌, None, Some, Option, MatchOption, slice_get, Bor, sym, refl, ap, ◌∙◌, ⊎_elim, arith}
+use Rattle.std.proofs.Common.{◌≡◌, ℕ, suc, ◌<◌, ◌≤◌, Bool, true, false, ◌||◌, ltb, leb, List, [], ◌∷◌, length, None, Some, Option, MatchOption, slice_get, Bor, sym, refl, ap, ◌∙◌, ⊎_elim, arith}
 use Rattle.std.proofs.lemmas.Bool.{cond_both, leb-false, ltb-true, ltb-false, cases_Bool}
 use Rattle.std.proofs.lemmas.Bool.Decides.{nat_tests}
 use Rattle.std.specs.Option.{option_copied, option_map_or}
@@ -25,6 +25,15 @@ shares_below low (row ∷ rows) range up below =
     let p = ascending_parts low row rows up in
     let behind = shares_below (suc row.last) rows range p.2 (omega arith) in
     grind (arith, nat_tests)
+
+-- nor has a range whose place is behind the rows
+pub shares_past : {V : Type 0} (rows : List (Range V)) (range : Range V) → length rows ≤ place range.first rows → shares_any rows range ≡ false
+shares_past [] range past = refl
+shares_past (row ∷ rows) range past =
+    cond_both (ltb row.last range.first) (suc (place range.first rows)) 0 (λ p. suc (length rows) ≤ p → shares_any (row ∷ rows) range ≡ false)
+    (λ t behind. shares_on row rows range (shares_not_before row range (ltb-true _ _ t)) ∙ shares_past rows range (omega arith))
+    (λ _ behind. absurd (omega arith))
+    past
 
 -- of rows whose first does not end before the range, that one decides
 pub shares_first : {V : Type 0} (row : Range V) (rows : List (Range V)) (range : Range V) → row.first ≤ row.last → ascending_from (suc row.last) rows ≡ true → range.first ≤ row.last → shares_any (row ∷ rows) range ≡ leb row.first range.last

@@ -1,3 +1,4 @@
 pub mod Pieces
+pub mod Replacing
 pub mod FlatArray
 pub mod GapArray

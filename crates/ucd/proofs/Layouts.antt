@@ -1,6 +1,6 @@
 -- How a line is laid out, from where its first ';' and its first '#' stand. Assumes nothing.
-use Rattle.std.proofs.Common.{◌≡◌, ℕ, ◌==◌, position, not, Some, None, ◌+◌, ◌≤◌, Bool, true, false, cond, ◌&&◌, eqb, ltb, List, length, take, drop, Ok, Err, sym, refl, ap, ◌∙◌, arith}
-use Rattle.std.proofs.lemmas.Bool.{true≢false, cond_both, ltb-false, eq-eqb, le-ltb, and_from, cond-true, cond-false}
+use Rattle.std.proofs.Common.{◌≡◌, ℕ, ◌==◌, position, not, Some, None, ◌+◌, ◌<◌, ◌≤◌, Bool, true, false, cond, ◌&&◌, eqb, ltb, List, length, take, drop, Ok, Err, sym, refl, ap, ◌∙◌, arith}
+use Rattle.std.proofs.lemmas.Bool.{true≢false, cond_both, ltb-false, ne_eqb, eq-eqb, le-ltb, and_from, and_right, cond-true, cond-false}
 use Rattle.std.specs.List.{position_or_len, prefix_len}
 use Rattle.std.specs.Option.{is_some, unwrap_or}
 use Rattle.std.proofs.lemmas.List.Sums.{prefix_len-le-length}
@@ -28,6 +28,12 @@ parts_one s first rest within is_rest no_more =
     by_case : (v : Bool) → is_some (cond v (Some (prefix_len (is InField) rest)) None) ≡ false → v ≡ false
     by_case true found = absurd (true≢false found)
     by_case false found = refl
+
+-- a second ';' follows the first
+pub many_fields : (closing : Bool) (s : List ℕ) (comment : Part) (first count : ℕ) (rest : List ℕ) → first ≡ prefix_len (is InField) s → rest ≡ drop (first + 1) s → count ≡ prefix_len (is InField) rest → count < length rest → two_fields closing s comment ≡ Err (whole FieldCount)
+many_fields closing s comment first count rest at is_rest counted short =
+    let over : prefix_len (is InField) rest ≡ length rest → ⊥ = λ same. omega (arith, same, counted) in
+    at_fields closing s comment (take first s) rest first at refl (sym is_rest) ∙ cond-false _ _ _ (and_right _ _ (ne_eqb _ _ over))
 
 -- the two fields of bytes that are cut at their only ';'
 pub both_fields : (closing : Bool) (s : List ℕ) (comment range value : Part) → parts_once s (prefix_len (is InField) s) ≡ true → range ≡ field false 0 (take (prefix_len (is InField) s) s) → value ≡ field closing (prefix_len (is InField) s + 1) (drop (prefix_len (is InField) s + 1) s) → two_fields closing s comment ≡ Ok (listing range value comment)

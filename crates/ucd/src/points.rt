@@ -1,5 +1,5 @@
 // Reads field 1: one code point, or two joined by "..".
-ghost use Rattle.std.specs.Prelude.{◌≡◌, true, false, MatchResult};
+ghost use Rattle.std.specs.Prelude.{◌≡◌, ◌≤◌, true, false, length, MatchResult};
 ghost use Rattle.std.specs.List.{prefix_len};
 ghost use Rattle.ucd.specs.Bytes.{Digit as digit, is};
 ghost use Rattle.ucd.specs.Points.{digit_of, pointed, point_of, behind, last_point, end_of, range_of};
@@ -22,7 +22,8 @@ fn digit(b: u8) -> Option<u32>
 
 // How many digits lead.
 fn leading_digits(text: &[u8]) -> usize
-    ensures { result ≡ prefix_len (is digit) text.now }
+    ensures run { result ≡ prefix_len (is digit) text.now }
+    ensures within { result ≤ length text.now }
 {
     text.iter().take_while(|b| digit(**b).is_some()).count()
 }

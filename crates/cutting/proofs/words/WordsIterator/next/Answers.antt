@@ -14,7 +14,7 @@ returns-clause-steps c =
     let rest = c.args.self.now.rest.now in
     let text = part_from rest c.blanks_len.result c.blanks_len.ensures.run in
     let some : 0 < length (word_on rest) = omega (arith, ap length text, false-eqb _ 0 c.if-is_empty.ensures) in
-    simp (c.split_at.ensures.front, c.split_at.ensures.back, c.word_len.ensures.run, text) (first_word rest some)
+    simp (c.cut.ensures.front, c.cut.ensures.rest, text) (first_word rest some)
 
 pub returns-clause-goes : goal.returns-clause-goes
 returns-clause-goes c = record { on = λ _. (tt, tt, fewer _ _ _ (returns-clause-steps c)); keeps = tt; rests = λ _. tt }
