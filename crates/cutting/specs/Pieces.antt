@@ -15,11 +15,12 @@ abbrev pub onto : ℕ → List (List ℕ) → List (List ℕ)
 onto b [] = (b ∷ []) ∷ []
 onto b (p ∷ ps) = (b ∷ p) ∷ ps
 
--- the pieces of a row of bytes: each goes up to a byte that ends it, which it lacks, or to the row's end
+-- the pieces of a row of bytes, by a test of what ends one: each goes up to such a byte, which it lacks, or to the row's end
 abbrev pub pieces_by : (ℕ → Bool) → List ℕ → List (List ℕ)
 pieces_by end [] = []
 pieces_by end (b ∷ bs) = cond (end b) ([] ∷ pieces_by end bs) (onto b (pieces_by end bs))
 
+-- the pieces that end at a stop
 abbrev pub pieces : Stop → List ℕ → List (List ℕ)
 pieces stop bytes = pieces_by (ends stop) bytes
 

@@ -1,4 +1,4 @@
-// Cuts a row of bytes where a byte stands first.
+// Cuts a row of bytes at the first byte that ends a piece.
 ghost use Rattle.std.specs.Prelude.{◌≡◌, ◌<◌, ◌≤◌, ◌∷◌, ◌==◌, length, position};
 ghost use Rattle.std.specs.List.{after_first, before_first, position_or_len};
 ghost use Rattle.cutting.specs.Pieces.{first, pieces_by, statement};
