@@ -107,6 +107,12 @@ word_on bs = drop (prefix_len (ends Blank) bs) bs
 pub part_from : (bs : List ℕ) (n : ℕ) → n ≡ prefix_len (ends Blank) bs → take (length bs - n) (drop n bs) ≡ word_on bs
 part_from bs n is = take_rest bs n ∙ ap (λ k. drop k bs) is
 
+-- the first word, and the words of what follows it, its blank with it
+pub first_word : (bs : List ℕ) → 0 < length (word_on bs) → words bs ≡ before_first (ends Blank) (word_on bs) ∷ words (drop (position_or_len (ends Blank) (word_on bs)) (word_on bs))
+first_word bs some =
+    let size_there = size_is (ends Blank) (word_on bs) in
+    rw (← size_there, ← blanks_is) (by_blanks bs (rw (← blanks_is) at some))
+
 pub no_word : (bs : List ℕ) → length (word_on bs) ≡ 0 → words bs ≡ []
 no_word bs none = by_none bs (rw (← blanks_is) at none)
 
@@ -114,11 +120,9 @@ no_word bs none = by_none bs (rw (← blanks_is) at none)
 words_behind : (bs : List ℕ) → words (drop (position_or_len (ends Blank) bs) bs) ≡ words (after_first (ends Blank) bs)
 words_behind bs = rw (add-one, ← size_is) (behind_word bs)
 
-pub first_word : (bs : List ℕ) → 0 < length (word_on bs) → words bs ≡ before_first (ends Blank) (word_on bs) ∷ words (after_first (ends Blank) (word_on bs))
-first_word bs some =
-    let size_there = size_is (ends Blank) (word_on bs) in
-    rw (← size_there, ← blanks_is) (by_blanks bs (rw (← blanks_is) at some))
-    ∙ ap (λ ws. before_first (ends Blank) (word_on bs) ∷ ws) (words_behind (word_on bs))
+-- the first word, and the words of what follows its blank
+pub first_word_cut : (bs : List ℕ) → 0 < length (word_on bs) → words bs ≡ before_first (ends Blank) (word_on bs) ∷ words (after_first (ends Blank) (word_on bs))
+first_word_cut bs some = first_word bs some ∙ ap (λ ws. before_first (ends Blank) (word_on bs) ∷ ws) (words_behind (word_on bs))
 
 -- no word is empty
 filled_some : (ps : List (List ℕ)) (w : List ℕ) (ws : List (List ℕ)) → filled ps ≡ w ∷ ws → 0 < length w
@@ -128,7 +132,7 @@ filled_some ((b ∷ bs) ∷ ps) w ws is = let same : b ∷ bs ≡ w = cc in omeg
 
 -- the first word of a text, and what follows the blank that ends it
 pub begins : (text : List ℕ) → Begins text (before_first (ends Blank) (word_on text)) (after_first (ends Blank) (word_on text))
-begins text = record { some = λ long. first_word text (some_on long); none = none; shorter = λ long. shorter (some_on long) }
+begins text = record { some = λ long. first_word_cut text (some_on long); none = none; shorter = λ long. shorter (some_on long) }
   where
     some_on : 0 < length (before_first (ends Blank) (word_on text)) → 0 < length (word_on text)
     some_on long = grind (arith, common_steps)
@@ -137,7 +141,7 @@ begins text = record { some = λ long. first_word text (some_on long); none = no
     none short =
         let word = before_first (ends Blank) (word_on text) in
         let long = filled_some (pieces_by (ends Blank) text) word (words (after_first (ends Blank) (word_on text))) in
-        ⊎_elim (no_word text) (λ some. absurd (omega (arith, short, long (first_word text some)))) (eq-zero-or-pos (length (word_on text)))
+        ⊎_elim (no_word text) (λ some. absurd (omega (arith, short, long (first_word_cut text some)))) (eq-zero-or-pos (length (word_on text)))
 
     shorter : 0 < length (word_on text) → length (after_first (ends Blank) (word_on text)) < length text
     shorter some = grind (arith, common_steps)
