@@ -107,7 +107,7 @@ word_on bs = drop (prefix_len (ends Blank) bs) bs
 pub part_from : (bs : List ℕ) (n : ℕ) → n ≡ prefix_len (ends Blank) bs → take (length bs - n) (drop n bs) ≡ word_on bs
 part_from bs n is = take_rest bs n ∙ ap (λ k. drop k bs) is
 
--- the first word, and the words of what follows it, its blank with it
+-- the first word, and the words of what stands behind it, from the blank that ends it on
 pub first_word : (bs : List ℕ) → 0 < length (word_on bs) → words bs ≡ before_first (ends Blank) (word_on bs) ∷ words (drop (position_or_len (ends Blank) (word_on bs)) (word_on bs))
 first_word bs some =
     let size_there = size_is (ends Blank) (word_on bs) in
@@ -120,7 +120,7 @@ no_word bs none = by_none bs (rw (← blanks_is) at none)
 words_behind : (bs : List ℕ) → words (drop (position_or_len (ends Blank) bs) bs) ≡ words (after_first (ends Blank) bs)
 words_behind bs = rw (add-one, ← size_is) (behind_word bs)
 
--- the first word, and the words of what follows its blank
+-- the first word, and the words of what follows the blank that ends it
 pub first_word_cut : (bs : List ℕ) → 0 < length (word_on bs) → words bs ≡ before_first (ends Blank) (word_on bs) ∷ words (after_first (ends Blank) (word_on bs))
 first_word_cut bs some = first_word bs some ∙ ap (λ ws. before_first (ends Blank) (word_on bs) ∷ ws) (words_behind (word_on bs))
 
